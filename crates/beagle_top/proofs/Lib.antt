@@ -1,0 +1,5 @@
+pub mod Runs
+pub mod Numerals
+pub mod Cuts
+pub mod Statements
+pub mod Files
