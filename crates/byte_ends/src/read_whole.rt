@@ -1,5 +1,6 @@
 // Reads a source to its end.
-ghost use Rattle.std.specs.Prelude.{◌≡◌, ◌+◌, ◌<◌, ◌≤◌, ℕ, [], length, take, drop, IfOk, OnOk, OnErr, IfSome, IsErrOf, Some};
+ghost use Rattle.std.specs.Prelude.{◌≡◌, ◌+◌, ◌<◌, ◌≤◌, ◌++◌, ℕ, List, [], length, take, drop, IfOk, OnOk, OnErr, IfSome, IsErrOf, Some};
+ghost use Rattle.std.specs.Io.KnownBytes.{Consumes};
 ghost use Rattle.byte_ends.specs.Faults.{Rose};
 ghost use Rattle.byte_ends.specs.declared.read_whole.ReadEnd.TheVariants as end;
 
@@ -61,19 +62,44 @@ pub fn read_all<S: Source>(alloc: Global, source: &mut S, limit: u64) -> Result<
         (n : ℕ) × (n ≤ limit + 1) × (S.left source.new ≡ Some (drop n bytes)))) }
     ensures faults { S.faults source.old ≤ S.faults source.new }
 {
-    let mut piece = vec![in alloc; 0u8; PIECE]?;
+    let mut buffer = vec![in alloc; 0u8; PIECE]?;
     let mut all = Vec::new(alloc);
     let mut room = limit;
     'pieces: loop {
-        let most = room.min(PIECE as u64 - 1) as usize + 1;
-        let n = source.read(&mut piece[..most])?;
+        let n = read_piece(source, &mut buffer, &mut all, room)?;
         if n == 0 {
             return Ok(all);
         }
-        if n as u64 > room {
-            return Err(ReadEnd::TooLong);
-        }
-        all.extend_from_slice(&piece[..n])?;
-        room -= n as u64;
+        room -= n;
     }
+}
+
+// Appends what one read gives, and answers how many bytes that is: none at the end of input. It reads `room` bytes
+// and one more at most, and doesn't append that one.
+fn read_piece<S: Source>(
+    source: &mut S,
+    buffer: &mut [u8],
+    all: &mut Vec<u8>,
+    room: u64,
+) -> Result<u64, ReadEnd>
+    requires { 0 < length buffer.old }
+    ensures room { IfOk result (λ n. n ≤ room) }
+    ensures appends { IfOk result (λ n. (piece : List ℕ) × (length piece ≡ n)
+        × (all.new.items ≡ all.old.items ++ piece)
+        × Consumes (S.left source.old) (S.left source.new) piece) }
+    ensures end { IfOk result (λ n. n ≡ 0 → IfSome (S.left source.old) (λ bytes. bytes ≡ [])) }
+    ensures too_long { IsErrOf result ReadEnd.TooLong → ((piece : List ℕ) × (length piece ≡ room + 1)
+        × Consumes (S.left source.old) (S.left source.new) piece) }
+    ensures err { OnErr result ((piece : List ℕ) × (length piece ≤ room + 1)
+        × Consumes (S.left source.old) (S.left source.new) piece) }
+    ensures failed { IsErrOf result ReadEnd.Failed → Rose (S.faults source.old) (S.faults source.new) }
+    ensures faults { S.faults source.old ≤ S.faults source.new }
+{
+    let most = room.min(buffer.len() as u64 - 1) as usize + 1;
+    let n = source.read(&mut buffer[..most])?;
+    if n as u64 > room {
+        return Err(ReadEnd::TooLong);
+    }
+    all.extend_from_slice(&buffer[..n])?;
+    Ok(n as u64)
 }
