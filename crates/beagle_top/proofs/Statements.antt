@@ -1,19 +1,19 @@
 -- Statements on lists: the cursor reads exactly the statements that the bytes begin with.
-use Rattle.std.proofs.Common.{◌≡◌, ℕ, ◌+◌, ◌<◌, ◌≤◌, lit<, Bool, true, false, cond, ◌&&◌, List, [], ◌∷◌, ◌++◌, length, Option, Some, None, ℤ, refl, sym, ap, subst, ◌∙◌, append_assoc, length-append, inl, inr, ◌⊎◌, ◌||◌, ◌==◌, arith, rules, codes}
+use Rattle.std.proofs.Common.{◌≡◌, ℕ, ◌<◌, ◌≤◌, lit<, Bool, true, false, cond, ◌&&◌, List, [], ◌∷◌, ◌++◌, length, Option, Some, None, ℤ, refl, sym, ap, ◌∙◌, append_assoc, length-append, inl, inr, ◌⊎◌, ◌||◌, ◌==◌, arith, codes}
 use Rattle.std.proofs.lemmas.Bool.{and_parts, and_from, or_cases, or_left, or_right, false≢true}
 use Rattle.std.proofs.lemmas.Slice.Eq.{bytes_eq-Decides}
 use Rattle.std.proofs.lemmas.List.Folds.{list_all-append}
 use Rattle.std.specs.List.{list_all}
 use Rattle.std.specs.Str.{bytes_eq}
 use Rattle.std.specs.Prelude.{option_and_then}
-use Rattle.std.specs.Char.{is_ascii_digit, is_ascii_lowercase, is_ascii_alphanumeric}
+use Rattle.std.specs.Char.{is_ascii_digit, is_ascii_lowercase}
 use Rattle.beagle_top.specs.declared.comparisons.Comparison.{Comparison}
 use Rattle.beagle_top.specs.declared.comparisons.Predicate.{Predicate}
 use Rattle.beagle_top.specs.declared.comparisons.Predicate.TheVariants as predicate
 use Rattle.beagle_top.specs.Bytes.{is_blank, is_word_byte, is_run_byte, is_lower_word, are_digits, is_numeral, numeral_value}
-use Rattle.beagle_top.specs.FirstForm.{Spread, Statement, statement_tokens, is_well_formed, comparison_of, predicate_text, meaning, BeginsWith}
+use Rattle.beagle_top.specs.FirstForm.{Spread, Statement, comparison_of, predicate_text, meaning, BeginsWith}
 use Rattle.beagle_top.specs.Reading.{unit_at, after_word, after_name, predicate_of, predicate_at, numeral_at, comparison_at, statement_at}
-use Rattle.beagle_top.proofs.Cuts.{AllPass, IsSign, IsCut, unit_found, word_read, sign_read}
+use Rattle.beagle_top.proofs.Cuts.{AllPass, IsSign, unit_found, word_read, sign_read}
 
 -- ---- steps that may fail
 pub bound_to : {A B : Type 0} (f : A → Option B) (o : Option A) (a : A) (r : Option B) → o ≡ Some a → f a ≡ r → option_and_then f o ≡ r

@@ -1,5 +1,5 @@
 -- Files of the first form: axioms that compare two numerals.
-use Rattle.std.specs.Prelude.{◌≡◌, ℕ, suc, Bool, ◌==◌, ◌&&◌, not, int_lt, IsTrue, List, [], ◌∷◌, ◌++◌, codes, ℤ, pos, ◌+ℤ◌, ◌-ℤ◌, Option, Some, None, if◌then◌else◌}
+use Rattle.std.specs.Prelude.{◌≡◌, ℕ, suc, Bool, ◌&&◌, not, int_lt, IsTrue, List, [], ◌∷◌, ◌++◌, codes, ℤ, Option, Some, None, if◌then◌else◌}
 use Rattle.std.specs.List.{list_all}
 use Rattle.beagle_top.specs.declared.comparisons.Comparison.{Comparison}
 use Rattle.beagle_top.specs.declared.comparisons.Comparison.TheVariants.{Less, LessEq}

@@ -1,3 +1,5 @@
 pub mod Bytes
 pub mod FirstForm
 pub mod Reading
+pub mod Texts
+pub mod Answer

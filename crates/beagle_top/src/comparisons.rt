@@ -2,6 +2,8 @@
 
 ghost use Rattle.std.specs.Prelude.{◌≡◌};
 
+use std::fmt;
+
 /// The predicates that compare two numbers.
 #[derive(Clone, Copy, Debug, PartialEq, Eq)]
 pub enum Predicate {
@@ -50,6 +52,20 @@ impl Comparison {
         match self {
             Comparison::Less(left, right) => !(left < right),
             Comparison::LessEq(left, right) => right < left,
+        }
+    }
+}
+
+impl fmt::Display for Comparison {
+    ghost use Rattle.std.specs.Prelude.{Some};
+    ghost use Rattle.beagle_top.specs.Texts.{literal};
+
+    ghost output = { λ c. Some (literal c) };
+
+    fn fmt<W: fmt::Write>(&self, f: &mut fmt::Formatter<W>) -> fmt::Result {
+        match self {
+            Comparison::Less(left, right) => write!(f, "({left} + 1) <= {right}"),
+            Comparison::LessEq(left, right) => write!(f, "{left} <= {right}"),
         }
     }
 }

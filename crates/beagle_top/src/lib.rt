@@ -1,8 +1,13 @@
 //! The top call: from the bytes of a problem to the bytes of an answer.
 #![tactic(auto)]
 
+mod answers;
 mod comparisons;
 mod first_form;
+pub mod statuses;
+mod texts;
+mod top;
 mod units;
 
 pub use comparisons::Comparison;
+pub use top::{Ended, INPUT_LIMIT, beagle};

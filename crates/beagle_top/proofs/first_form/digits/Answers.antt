@@ -1,4 +1,4 @@
-use Rattle.std.proofs.Common.{ℕ, ◌+◌, ◌*◌, ◌^◌, ◌<◌, ◌≤◌, lit<, length, arith, take_all}
+use Rattle.std.proofs.Common.{◌^◌, ◌≤◌, lit<, arith}
 use Rattle.std.proofs.Math.Nat.{pow-le-pow_right}
 use Rattle.beagle_top.proofs.Numerals.{within}
 use Rattle.beagle_top.proofs.first_form.digits.Goals as goal

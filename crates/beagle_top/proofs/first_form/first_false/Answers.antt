@@ -1,4 +1,4 @@
-use Rattle.std.proofs.Common.{◌≡◌, ◌+◌, None, ap, sym, subst, ◌∙◌, IfNone, arith}
+use Rattle.std.proofs.Common.{◌+◌, sym, subst, ◌∙◌, IfNone}
 use Rattle.beagle_top.specs.FirstForm.{NoneFalse}
 use Rattle.beagle_top.proofs.Files.{Reads, goes_on, stops, ends_found, ends_none}
 use Rattle.beagle_top.proofs.Statements.{statement_found, statement_shorter}

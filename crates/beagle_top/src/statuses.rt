@@ -1,0 +1,14 @@
+//! The exit statuses.
+
+/// A refutation was written.
+pub const PROVED: u8 = 0;
+/// The input was refused.
+pub const REFUSED: u8 = 3;
+/// The words on the command line were refused.
+pub const USAGE: u8 = 4;
+/// The source failed.
+pub const READ_FAULT: u8 = 5;
+/// The sink failed.
+pub const WRITE_FAULT: u8 = 6;
+/// Memory ran out.
+pub const MEMORY: u8 = 7;
