@@ -5,6 +5,8 @@ mod answers;
 mod comparisons;
 mod first_form;
 pub mod statuses;
+#[cfg(test)]
+mod tests;
 mod texts;
 mod top;
 mod units;
