@@ -8,3 +8,4 @@ pub mod Rows
 pub mod Forming
 pub mod Scaling
 pub mod Merging
+pub mod WellFormed

@@ -15,7 +15,7 @@ use Rattle.lin_base.specs.Steps.{adds, add_term_steps, add_terms_steps}
 abbrev pub is_below : ℕ → Terms → Bool
 is_below x ts = list_all (λ e. nat_lt x e.0) ts
 
-lower : (x y : ℕ) (ts : Terms) → nat_lt x y ≡ true → is_below y ts ≡ true → is_below x ts ≡ true
+pub lower : (x y : ℕ) (ts : Terms) → nat_lt x y ≡ true → is_below y ts ≡ true → is_below x ts ≡ true
 lower x y [] h below = refl
 lower x y (e ∷ ts) h below =
     let both = and_parts (nat_lt y e.0) (is_below y ts) below in
@@ -57,7 +57,7 @@ add_terms-front ((x, k) ∷ ts) y l us h =
     let both = and_parts (nat_lt y x) (is_below y ts) h in
     ap (add_term x k) (add_terms-front ts y l us both.1) ∙ add_term-above x y k l (add_terms ts us) both.0
 
-add_term-keeps_below : (x y : ℕ) (k : ℤ) (us : Terms) → nat_lt x y ≡ true → is_below x us ≡ true → is_below x (add_term y k us) ≡ true
+pub add_term-keeps_below : (x y : ℕ) (k : ℤ) (us : Terms) → nat_lt x y ≡ true → is_below x us ≡ true → is_below x (add_term y k us) ≡ true
 add_term-keeps_below x y k [] h below = and_from _ _ h refl
 add_term-keeps_below x y k ((z, l) ∷ us) h below =
     let both = and_parts (nat_lt x z) (is_below x us) below in
