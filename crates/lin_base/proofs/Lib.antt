@@ -5,3 +5,7 @@ pub mod Divisors
 pub mod Tight
 pub mod Combine
 pub mod Rows
+pub mod Forming
+pub mod Scaling
+pub mod Merging
+pub mod WellFormed

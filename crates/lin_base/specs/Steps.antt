@@ -1,5 +1,5 @@
 -- The order of computing: which sums and products are formed, in which order. A step is a `Wide`: an operation and its operands, whether its result leaves the range or not. An operation on sums has its value in whole numbers (Sum, Change, Combine) and beside it the list of its steps, joined by `++` in the order of forming. The left operand of a product is the multiplier, that of a sum the number that was formed first.
-use Rattle.std.specs.Prelude.{◌≡◌, ⊤, ℕ, ℤ, pos, negsuc, ◌+ℤ◌, ◌*ℤ◌, ◌==◌, Bool, not, is_none, List, [], ◌∷◌, ◌++◌, Option, Some, None, Result, Ok, Err, if◌then◌else◌}
+use Rattle.std.specs.Prelude.{◌≡◌, ⊤, ℕ, ℤ, pos, negsuc, ◌+ℤ◌, ◌*ℤ◌, ◌==◌, Bool, not, is_none, List, [], ◌∷◌, ◌++◌, Option, Some, None, Result, Ok, Err, IfOk, IfErr, if◌then◌else◌}
 use Rattle.std.specs.List.{find}
 use Rattle.lin_base.specs.declared.sums.Lin.{Lin}
 use Rattle.lin_base.specs.declared.facts.Fact.{Fact}
@@ -48,8 +48,7 @@ IsErrorAt (TooWide w) first = first ≡ Some w
 
 -- the answer of a call that forms these steps and may want memory: the value exactly where each result is in the range, Wide exactly with the first step that leaves it
 abbrev pub Forms : {A : Type 0} → Result A ArithmeticError → List Wide → A → Type 0
-Forms (Ok r) steps a = (first_wide steps ≡ None) × (r ≡ a)
-Forms (Err e) steps a = IsErrorAt e (first_wide steps)
+Forms r steps a = IfOk r (λ v. (first_wide steps ≡ None) × (v ≡ a)) × IfErr r (λ e. IsErrorAt e (first_wide steps))
 
 -- ---- the orders
 abbrev pub add_term_steps : ℕ → ℤ → Terms → List Wide

@@ -1,0 +1,124 @@
+-- Well-formed sums and facts: what is formed of them is well formed.
+use Rattle.std.specs.Prelude.{◌≡◌, ℕ, ◌<◌, ℤ, pos, ◌+ℤ◌, ◌*ℤ◌, Bool, true, false, not, cond, ◌==◌, ◌&&◌, nat_lt, List, [], ◌∷◌, if◌then◌else◌}
+use Rattle.std.specs.List.{list_all, filter}
+use Rattle.std.proofs.Common.{refl, sym, ◌∙◌, ap, arith}
+use Rattle.std.proofs.lemmas.Bool.{cond_both, and_parts, and_from, eqb-true, eqb-false}
+use Rattle.std.proofs.lemmas.Bool.Decides.{nat_tests}
+use Rattle.lin_base.specs.declared.sums.Lin.{Lin}
+use Rattle.lin_base.specs.Whole.{is_zero}
+use Rattle.lin_base.specs.Sum.{Terms, with_term, add_term, add_terms, scale_terms, add, scale, negated, number, add_number, without}
+use Rattle.lin_base.specs.Combine.{add_scaled}
+use Rattle.lin_base.specs.Fact.{is_ascending, is_lin}
+use Rattle.lin_base.proofs.Merging.{is_below, ascending_parts, lower, add_term-keeps_below}
+
+-- no coefficient is 0
+abbrev pub is_reduced : Terms → Bool
+is_reduced ts = list_all (λ e. not (is_zero e.1)) ts
+
+pub ascending_cons : (e : ℕ × ℤ) (ts : Terms) → is_below e.0 ts ≡ true → is_ascending ts ≡ true → is_ascending (e ∷ ts) ≡ true
+ascending_cons e [] h k = refl
+ascending_cons e (f ∷ ts) h k = let both = and_parts (nat_lt e.0 f.0) (is_below e.0 ts) h in and_from _ _ both.0 k
+
+-- ---- a term in front
+ascending-with_term : (x : ℕ) (k : ℤ) (ts : Terms) → is_below x ts ≡ true → is_ascending ts ≡ true → is_ascending (with_term x k ts) ≡ true
+ascending-with_term x k ts h a = cond_both (is_zero k) ts ((x, k) ∷ ts) (λ us. is_ascending us ≡ true) (λ _. a) (λ _. ascending_cons (x, k) ts h a)
+
+below-with_term : (x y : ℕ) (k : ℤ) (ts : Terms) → nat_lt x y ≡ true → is_below x ts ≡ true → is_below x (with_term y k ts) ≡ true
+below-with_term x y k ts h a = cond_both (is_zero k) ts ((y, k) ∷ ts) (λ us. is_below x us ≡ true) (λ _. a) (λ _. and_from _ _ h a)
+
+reduced-with_term : (x : ℕ) (k : ℤ) (ts : Terms) → is_reduced ts ≡ true → is_reduced (with_term x k ts) ≡ true
+reduced-with_term x k ts a = cond_both (is_zero k) ts ((x, k) ∷ ts) (λ us. is_reduced us ≡ true) (λ _. a) (λ e. and_from _ _ (ap not e) a)
+
+-- ---- sums
+ascending-add_term : (x : ℕ) (k : ℤ) (us : Terms) → is_ascending us ≡ true → is_ascending (add_term x k us) ≡ true
+ascending-add_term x k [] h = refl
+ascending-add_term x k ((y, l) ∷ us) h =
+    let parts = ascending_parts (y, l) us h in
+    let P : Terms → Type 0 = λ ts. is_ascending ts ≡ true in
+    cond_both (nat_lt x y) ((x, k) ∷ (y, l) ∷ us) (if x == y then with_term x (k +ℤ l) us else (y, l) ∷ add_term x k us) P
+    (λ e. ascending_cons (x, k) ((y, l) ∷ us) (and_from _ _ e (lower x y us e parts.0)) h)
+    (λ d. cond_both (x == y) (with_term x (k +ℤ l) us) ((y, l) ∷ add_term x k us) P
+    (λ e. ascending-with_term x (k +ℤ l) us (ap (λ z. is_below z us) (eqb-true x y e) ∙ parts.0) parts.1)
+    (λ e.
+      let above : nat_lt y x ≡ true = grind (arith, nat_tests) in
+      ascending_cons (y, l) (add_term x k us) (add_term-keeps_below y x k us above parts.0) (ascending-add_term x k us parts.1)))
+
+ascending-add_terms : (ts us : Terms) → is_ascending us ≡ true → is_ascending (add_terms ts us) ≡ true
+ascending-add_terms [] us h = h
+ascending-add_terms ((x, k) ∷ ts) us h = ascending-add_term x k (add_terms ts us) (ascending-add_terms ts us h)
+
+reduced-add_term : (x : ℕ) (k : ℤ) (us : Terms) → not (is_zero k) ≡ true → is_reduced us ≡ true → is_reduced (add_term x k us) ≡ true
+reduced-add_term x k [] n h = and_from _ _ n refl
+reduced-add_term x k ((y, l) ∷ us) n h =
+    let both = and_parts (not (is_zero l)) (is_reduced us) h in
+    let P : Terms → Type 0 = λ ts. is_reduced ts ≡ true in
+    cond_both (nat_lt x y) ((x, k) ∷ (y, l) ∷ us) (if x == y then with_term x (k +ℤ l) us else (y, l) ∷ add_term x k us) P
+    (λ _. and_from _ _ n h)
+    (λ _. cond_both (x == y) (with_term x (k +ℤ l) us) ((y, l) ∷ add_term x k us) P
+    (λ _. reduced-with_term x (k +ℤ l) us both.1)
+    (λ _. and_from _ _ both.0 (reduced-add_term x k us n both.1)))
+
+reduced-add_terms : (ts us : Terms) → is_reduced ts ≡ true → is_reduced us ≡ true → is_reduced (add_terms ts us) ≡ true
+reduced-add_terms [] us h k = k
+reduced-add_terms ((x, l) ∷ ts) us h k =
+    let both = and_parts (not (is_zero l)) (is_reduced ts) h in
+    reduced-add_term x l (add_terms ts us) both.0 (reduced-add_terms ts us both.1 k)
+
+pub is_lin-add : (t u : Lin) → is_lin t ≡ true → is_lin u ≡ true → is_lin (add t u) ≡ true
+is_lin-add t u h k =
+    let first = and_parts (is_ascending t.coefs) (is_reduced t.coefs) h in
+    let second = and_parts (is_ascending u.coefs) (is_reduced u.coefs) k in
+    and_from _ _ (ascending-add_terms t.coefs u.coefs second.0) (reduced-add_terms t.coefs u.coefs first.1 second.1)
+
+-- ---- multiples
+below-scale_terms : (x : ℕ) (k : ℤ) (ts : Terms) → is_below x ts ≡ true → is_below x (scale_terms k ts) ≡ true
+below-scale_terms x k [] h = refl
+below-scale_terms x k ((y, l) ∷ ts) h =
+    let both = and_parts (nat_lt x y) (is_below x ts) h in
+    below-with_term x y (k *ℤ l) (scale_terms k ts) both.0 (below-scale_terms x k ts both.1)
+
+ascending-scale_terms : (k : ℤ) (ts : Terms) → is_ascending ts ≡ true → is_ascending (scale_terms k ts) ≡ true
+ascending-scale_terms k [] h = refl
+ascending-scale_terms k ((x, l) ∷ ts) h =
+    let parts = ascending_parts (x, l) ts h in
+    ascending-with_term x (k *ℤ l) (scale_terms k ts) (below-scale_terms x k ts parts.0) (ascending-scale_terms k ts parts.1)
+
+reduced-scale_terms : (k : ℤ) (ts : Terms) → is_reduced (scale_terms k ts) ≡ true
+reduced-scale_terms k [] = refl
+reduced-scale_terms k ((x, l) ∷ ts) = reduced-with_term x (k *ℤ l) (scale_terms k ts) (reduced-scale_terms k ts)
+
+pub is_lin-scale : (k : ℤ) (t : Lin) → is_lin t ≡ true → is_lin (scale k t) ≡ true
+is_lin-scale k t h =
+    let parts = and_parts (is_ascending t.coefs) (is_reduced t.coefs) h in
+    and_from _ _ (ascending-scale_terms k t.coefs parts.0) (reduced-scale_terms k t.coefs)
+
+pub is_lin-add_scaled : (so_far : Lin) (k : ℤ) (t : Lin) → is_lin so_far ≡ true → is_lin t ≡ true → is_lin (add_scaled so_far k t) ≡ true
+is_lin-add_scaled so_far k t h g = is_lin-add so_far (scale k t) h (is_lin-scale k t g)
+
+pub is_lin-add_number : (t : Lin) (c : ℤ) → is_lin t ≡ true → is_lin (add_number t c) ≡ true
+is_lin-add_number t c h = is_lin-add t (number c) h refl
+
+-- ---- a sum without a term
+below-filter : (p : ℕ × ℤ → Bool) (x : ℕ) (ts : Terms) → is_below x ts ≡ true → is_below x (filter p ts) ≡ true
+below-filter p x [] h = refl
+below-filter p x (e ∷ ts) h =
+    let both = and_parts (nat_lt x e.0) (is_below x ts) h in
+    cond_both (p e) (e ∷ filter p ts) (filter p ts) (λ us. is_below x us ≡ true) (λ _. and_from _ _ both.0 (below-filter p x ts both.1)) (λ _. below-filter p x ts both.1)
+
+ascending-filter : (p : ℕ × ℤ → Bool) (ts : Terms) → is_ascending ts ≡ true → is_ascending (filter p ts) ≡ true
+ascending-filter p [] h = refl
+ascending-filter p (e ∷ ts) h =
+    let parts = ascending_parts e ts h in
+    cond_both (p e) (e ∷ filter p ts) (filter p ts) (λ us. is_ascending us ≡ true)
+    (λ _. ascending_cons e (filter p ts) (below-filter p e.0 ts parts.0) (ascending-filter p ts parts.1)) (λ _. ascending-filter p ts parts.1)
+
+reduced-filter : (p : ℕ × ℤ → Bool) (ts : Terms) → is_reduced ts ≡ true → is_reduced (filter p ts) ≡ true
+reduced-filter p [] h = refl
+reduced-filter p (e ∷ ts) h =
+    let both = and_parts (not (is_zero e.1)) (is_reduced ts) h in
+    cond_both (p e) (e ∷ filter p ts) (filter p ts) (λ us. is_reduced us ≡ true) (λ _. and_from _ _ both.0 (reduced-filter p ts both.1)) (λ _. reduced-filter p ts both.1)
+
+pub is_lin-without : (x : ℕ) (t : Lin) → is_lin t ≡ true → is_lin (without x t) ≡ true
+is_lin-without x t h =
+    let parts = and_parts (is_ascending t.coefs) (is_reduced t.coefs) h in
+    and_from _ _ (ascending-filter (λ e. not (e.0 == x)) t.coefs parts.0) (reduced-filter (λ e. not (e.0 == x)) t.coefs parts.1)
