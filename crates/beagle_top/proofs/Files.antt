@@ -26,7 +26,7 @@ first_or_more None n c ds = by (is_false c)
     by true = refl
     by false = ap (λ k. first_false_from k ds) (sym (add-one n))
 
-same_statement : (c d : Comparison) (bytes r s : List ℕ) → statement_at bytes ≡ Some (c, r) → BeginsWith d bytes s → (d ≡ c) × (s ≡ r)
+pub same_statement : (c d : Comparison) (bytes r s : List ℕ) → statement_at bytes ≡ Some (c, r) → BeginsWith d bytes s → (d ≡ c) × (s ≡ r)
 same_statement c d bytes r s h k =
     let same : ◌≡◌ {A = Comparison × List ℕ} (d, s) (c, r) = (chosen true (d, s) (c, r) (sym (statement_read d bytes s k) ∙ h)).1 in
     (ap (λ p. p.0) same, ap (λ p. p.1) same)

@@ -3,3 +3,5 @@ pub mod Numerals
 pub mod Cuts
 pub mod Statements
 pub mod Files
+pub mod Closing
+pub mod OneAnswer

@@ -3,14 +3,20 @@ use Rattle.std.specs.Prelude.{◌≡◌, ℕ, ◌<◌, ◌≤◌, List, [], ◌�
 use Rattle.std.specs.Io.KnownBytes.{Appends}
 use Rattle.beagle_top.specs.declared.comparisons.Comparison.{Comparison}
 use Rattle.beagle_top.specs.declared.top.TheConstants.{INPUT_LIMIT}
+use Rattle.lin_base.specs.Fact.{Impossible}
+use Rattle.cert_tree.specs.Stands.{Stands}
+use Rattle.beagle_top.specs.Pools.{pool_of, closing}
 use Rattle.beagle_top.specs.FirstForm.{FirstFalse, NoneFalse}
 use Rattle.beagle_top.specs.Texts.{too_long, not_built, refutation}
 
--- the bytes are refuted by their first axiom that fails
+-- The bytes are refuted by their first axiom that fails: the printed certificate stands for the pool of that axiom's
+-- clause, so no integers make the clause true.
 pub record Refutes (bytes : List ℕ) (status : ℕ) (text : List ℕ) : Type 0 where
   pub axiom_number : ℕ
   pub comparison : Comparison
   pub first_false : FirstFalse bytes axiom_number comparison
+  pub certified : Stands (pool_of comparison) closing
+  pub impossible : Impossible (pool_of comparison)
   pub status_is : status ≡ 0
   pub text_is : text ≡ refutation axiom_number comparison
 

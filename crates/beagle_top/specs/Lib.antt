@@ -3,3 +3,4 @@ pub mod FirstForm
 pub mod Reading
 pub mod Texts
 pub mod Answer
+pub mod Pools

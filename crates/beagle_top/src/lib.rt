@@ -4,6 +4,7 @@
 mod answers;
 mod comparisons;
 mod first_form;
+mod laws;
 pub mod statuses;
 #[cfg(test)]
 mod tests;
@@ -12,4 +13,5 @@ mod top;
 mod units;
 
 pub use comparisons::Comparison;
+pub use laws::{one_answer, one_reading};
 pub use top::{Ended, INPUT_LIMIT, beagle};

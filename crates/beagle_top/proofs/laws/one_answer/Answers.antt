@@ -1,0 +1,5 @@
+use Rattle.beagle_top.proofs.OneAnswer.{one_due}
+use Rattle.beagle_top.proofs.laws.one_answer.Goals as goal
+
+pub returns : goal.returns
+returns c = one_due
