@@ -1,0 +1,2 @@
+tff(low,axiom,$lesseq(-5,7)).
+tff(high,axiom,$greater(10,+12)).

@@ -1,0 +1,1 @@
+tff(low,axiom,$less(1,2)).
