@@ -24,7 +24,7 @@ pub trait Source {
         ensures count { IfOk result (λ n. n ≤ length into.new) }
         ensures bytes { IfOk result (λ n. Consumes (left self.old) (left self.new) (take n into.new)) }
         ensures end { IfOk result (λ n. IfSome (left self.old)
-            (λ bytes. 0 < length into.new → (n ≡ 0) ↔ (bytes ≡ []))) }
+            (λ bytes. 0 < length into.new → ((n ≡ 0) ↔ (bytes ≡ [])))) }
         ensures kept { OnErr result (Keeps (left self.old) (left self.new)) }
         ensures failed { OnErr result (Rose (faults self.old) (faults self.new)) }
         ensures faults { faults self.old ≤ faults self.new };

@@ -18,3 +18,6 @@ pub use memory_sources::{MemorySource, SureSource};
 pub use read_whole::{ReadEnd, read_all};
 pub use std_adapters::{StdSink, StdSource};
 pub use write_whole::put_all;
+
+#[cfg(test)]
+mod tests;

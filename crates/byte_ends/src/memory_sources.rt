@@ -62,7 +62,7 @@ impl Source for SureSource {
         // As of each source.
         ensures count { IfOk result (λ n. n ≤ length into.new) }
         ensures bytes { IfOk result (λ n. Consumes (Some self.old) (Some self.new) (take n into.new)) }
-        ensures end { IfOk result (λ n. 0 < length into.new → (n ≡ 0) ↔ (self.old ≡ [])) }
+        ensures end { IfOk result (λ n. 0 < length into.new → ((n ≡ 0) ↔ (self.old ≡ []))) }
 
         // It never fails, and gives as many bytes as the buffer and what is left allow.
         ensures ok { IsOk result }
@@ -128,7 +128,7 @@ impl Source for MemorySource {
         // As of each source.
         ensures count { IfOk result (λ n. n ≤ length into.new) }
         ensures bytes { IfOk result (λ n. Consumes (Some self.old.left) (Some self.new.left) (take n into.new)) }
-        ensures end { IfOk result (λ n. 0 < length into.new → (n ≡ 0) ↔ (self.old.left ≡ [])) }
+        ensures end { IfOk result (λ n. 0 < length into.new → ((n ≡ 0) ↔ (self.old.left ≡ []))) }
         ensures failed { OnErr result (Rose self.old.faults self.new.faults) }
         ensures never_falls { self.old.faults ≤ self.new.faults }
 

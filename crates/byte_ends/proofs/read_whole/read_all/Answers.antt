@@ -1,17 +1,16 @@
-use Rattle.std.proofs.Common.{arith, length-append, length-take, length-drop, ap, length, ◌≡◌, ◌++◌, ◌+◌, ◌≤◌, [], List, ℕ, subst, sym, Err, ◌∙◌, rules, IsErrOf}
-use Rattle.std.specs.Io.KnownBytes.{Consumes}
-use Rattle.std.proofs.lemmas.Grind.{common_steps}
-use Rattle.byte_ends.proofs.Told.{consumes_none, consumes_more, left_within, left_after, told_as_long, whole_read, none_left, on_err, same_err}
+use Rattle.std.proofs.Common.{arith, length-append, length-take, length-drop, length, ◌≡◌, ◌++◌, ◌+◌, ◌∙◌}
+use Rattle.byte_ends.proofs.Told.{consumes_none, consumes_more, left_within, left_after, told_as_long, whole_read, none_left}
+use Rattle.byte_ends.proofs.Outcomes.{on_err, same_err}
 use Rattle.byte_ends.specs.declared.read_whole.ReadEnd.TheVariants as end
 use Rattle.byte_ends.proofs.read_whole.read_all.Goals as goal
 
 pub pieces-init : goal.pieces-init
 pieces-init g c = record {
-    read = rw c.new-all.ensures.items (consumes_none _);
-    count = rw c.new-all.ensures.items (omega arith);
-    never_falls = omega arith;
-    buffer = omega (arith, c.in_ok-buffer.ensures.len, c.in_ok-buffer.buffer.ok.0);
-  }
+  read = rw c.new-all.ensures.items (consumes_none _);
+  count = rw c.new-all.ensures.items (omega arith);
+  never_falls = omega arith;
+  buffer = omega (arith, c.in_ok-buffer.ensures.len, c.in_ok-buffer.buffer.ok.0);
+}
 
 pub returns-in_err-n-clause-err : goal.returns-in_err-n-clause-err
 returns-in_err-n-clause-err g c =
