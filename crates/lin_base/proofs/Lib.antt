@@ -9,3 +9,5 @@ pub mod Forming
 pub mod Scaling
 pub mod Merging
 pub mod WellFormed
+pub mod Lookup
+pub mod Equality

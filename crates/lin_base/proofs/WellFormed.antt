@@ -6,14 +6,10 @@ use Rattle.std.proofs.lemmas.Bool.{cond_both, and_parts, and_from, eqb-true, eqb
 use Rattle.std.proofs.lemmas.Bool.Decides.{nat_tests}
 use Rattle.lin_base.specs.declared.sums.Lin.{Lin}
 use Rattle.lin_base.specs.Whole.{is_zero}
-use Rattle.lin_base.specs.Sum.{Terms, with_term, add_term, add_terms, scale_terms, add, scale, negated, number, add_number, without}
+use Rattle.lin_base.specs.Sum.{Terms, is_reduced, with_term, add_term, add_terms, scale_terms, add, scale, negated, number, add_number, without}
 use Rattle.lin_base.specs.Combine.{add_scaled}
 use Rattle.lin_base.specs.Fact.{is_ascending, is_lin}
 use Rattle.lin_base.proofs.Merging.{is_below, ascending_parts, lower, add_term-keeps_below}
-
--- no coefficient is 0
-abbrev pub is_reduced : Terms → Bool
-is_reduced ts = list_all (λ e. not (is_zero e.1)) ts
 
 pub ascending_cons : (e : ℕ × ℤ) (ts : Terms) → is_below e.0 ts ≡ true → is_ascending ts ≡ true → is_ascending (e ∷ ts) ≡ true
 ascending_cons e [] h k = refl

@@ -6,7 +6,7 @@ use Rattle.lin_base.specs.declared.facts.Fact.{Fact}
 use Rattle.lin_base.specs.declared.facts.Fact.TheVariants.{AtMostZero, Zero, Divides, NotDivides}
 use Rattle.lin_base.specs.declared.facts.Pool.{Pool}
 use Rattle.lin_base.specs.Whole.{is_zero, divides}
-use Rattle.lin_base.specs.Sum.{Terms, Valuation, value}
+use Rattle.lin_base.specs.Sum.{Terms, Valuation, value, is_reduced, has_unknown}
 
 abbrev pub sum_of : Fact → Lin
 sum_of (AtMostZero t) = t
@@ -20,6 +20,10 @@ holds v (AtMostZero t) = int_le (value v t) (pos 0)
 holds v (Zero t) = is_zero (value v t)
 holds v (Divides m t) = divides m (value v t)
 holds v (NotDivides m t) = not (divides m (value v t))
+
+-- the fact has no unknown and is false
+abbrev pub is_false : Fact → Bool
+is_false f = not (has_unknown (sum_of f)) && not (holds (λ x. pos 0) f)
 
 -- some literal of the clause is true
 abbrev pub clause_holds : Valuation → List Fact → Bool
@@ -50,7 +54,7 @@ is_ascending (e ∷ f ∷ ts) = nat_lt e.0 f.0 && is_ascending (f ∷ ts)
 
 -- and no coefficient is 0
 abbrev pub is_lin : Lin → Bool
-is_lin t = is_ascending t.coefs && list_all (λ e. not (is_zero e.1)) t.coefs
+is_lin t = is_ascending t.coefs && is_reduced t.coefs
 
 -- and a modulus is at least 2
 abbrev pub is_fact : Fact → Bool

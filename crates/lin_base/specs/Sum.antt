@@ -16,6 +16,10 @@ Valuation = ℕ → ℤ
 abbrev pub assigned : ℕ → ℤ → Valuation → Valuation
 assigned x z v y = if y == x then z else v y
 
+-- no coefficient is 0
+abbrev pub is_reduced : Terms → Bool
+is_reduced ts = list_all (λ e. not (is_zero e.1)) ts
+
 -- ---- the value
 abbrev pub value_of_terms : Valuation → Terms → ℤ
 value_of_terms v [] = pos 0
