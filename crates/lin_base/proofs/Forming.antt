@@ -1,13 +1,15 @@
 -- The first step that leaves the range, of steps one after the other.
 use Rattle.std.specs.Prelude.{◌≡◌, Bool, true, false, not, cond, List, [], ◌∷◌, ◌++◌, Some, None, Ok, Err, Option, Result}
-use Rattle.std.proofs.Common.{refl, sym, ◌∙◌, ap}
+use Rattle.std.proofs.Common.{refl, sym, ◌∙◌, ap, subst}
 use Rattle.std.specs.Option.{option_or}
 use Rattle.std.proofs.lemmas.List.Folds.{find-append}
 use Rattle.std.proofs.lemmas.Int.{to_z-of_z}
 use Rattle.std.proofs.lemmas.Grind.{common_steps}
 use Rattle.lin_base.specs.declared.wides.Wide.{Wide}
+use Rattle.lin_base.specs.declared.wides.ArithmeticError.{ArithmeticError}
+use Rattle.lin_base.specs.declared.wides.ArithmeticError.TheVariants.{Memory, Wide as TooWide}
 use Rattle.lin_base.specs.Whole.{is_in_range}
-use Rattle.lin_base.specs.Steps.{result_of, first_wide, formed_by, unless}
+use Rattle.lin_base.specs.Steps.{result_of, first_wide, formed_by, unless, IsErrorAt, Forms}
 
 by_err : {A : Type 0} (b : Bool) (s : Wide) (z : A) (rest : Option Wide) (w : Wide) → unless (cond b (Some s) None) z ≡ Err w → cond b (Some s) rest ≡ Some w
 by_err true s z rest w h = cc
@@ -35,5 +37,24 @@ first_wide-append_none ss ts h = first_wide-append ss ts ∙ ap (λ o. option_or
 -- steps that leave it
 pub first_wide-append_some : (ss ts : List Wide) (w : Wide) → first_wide ss ≡ Some w → first_wide (ss ++ ts) ≡ Some w
 first_wide-append_some ss ts w h = first_wide-append ss ts ∙ ap (λ o. option_or o (first_wide ts)) h
+
+-- an error of the first steps, or of those after steps that stay in the range
+pub IsErrorAt-append_some : (e : ArithmeticError) (ss ts : List Wide) → IsErrorAt e (first_wide ss) → IsErrorAt e (first_wide (ss ++ ts))
+IsErrorAt-append_some Memory ss ts h = tt
+IsErrorAt-append_some (TooWide w) ss ts h = first_wide-append_some ss ts w h
+
+pub IsErrorAt-append_none : (e : ArithmeticError) (ss ts : List Wide) → first_wide ss ≡ None → IsErrorAt e (first_wide ts) → IsErrorAt e (first_wide (ss ++ ts))
+IsErrorAt-append_none Memory ss ts n h = tt
+IsErrorAt-append_none (TooWide w) ss ts n h = first_wide-append_none ss ts n ∙ h
+
+-- a call that ends in this error
+pub Forms-err : {A : Type 0} (r : Result A ArithmeticError) (e : ArithmeticError) (steps : List Wide) (a : A) → r ≡ Err e → IsErrorAt e (first_wide steps) → Forms r steps a
+Forms-err (Ok v) e steps a is h = cc
+Forms-err (Err d) e steps a is h = let same : d ≡ e = cc in (tt, subst (λ f. IsErrorAt f (first_wide steps)) (sym same) h)
+
+-- a call after steps that stay in the range
+pub Forms-after : {A : Type 0} (r : Result A ArithmeticError) (ss ts : List Wide) (a : A) → first_wide ss ≡ None → Forms r ts a → Forms r (ss ++ ts) a
+Forms-after (Ok v) ss ts a n h = ((first_wide-append_none ss ts n ∙ h.0.0, h.0.1), tt)
+Forms-after (Err e) ss ts a n h = (tt, IsErrorAt-append_none e ss ts n h.1)
 
 pub ruleset forming = (common_steps, to_z-of_z, first_wide-err, first_wide-ok, first_wide-append_none, first_wide-append_some)

@@ -2,7 +2,7 @@ pub mod Ring
 pub mod Values
 pub mod Truth
 pub mod Divisors
-pub mod Tight
+pub mod Tightening
 pub mod Combine
 pub mod Rows
 pub mod Forming
@@ -11,3 +11,4 @@ pub mod Merging
 pub mod WellFormed
 pub mod Lookup
 pub mod Equality
+pub mod Kept

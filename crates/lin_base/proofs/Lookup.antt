@@ -7,8 +7,10 @@ use Rattle.std.proofs.lemmas.List.{at_drop_more}
 use Rattle.std.proofs.lemmas.Bool.{and_parts}
 use Rattle.std.proofs.lemmas.Bool.Decides.{nat_tests}
 use Rattle.lin_base.specs.declared.sums.Lin.{Lin}
-use Rattle.lin_base.specs.Sum.{Terms, coef_in, has_unknown}
-use Rattle.lin_base.specs.Fact.{is_ascending}
+use Rattle.lin_base.specs.declared.facts.Fact.{Fact}
+use Rattle.lin_base.specs.declared.facts.Fact.TheVariants.{AtMostZero, Zero, Divides, NotDivides}
+use Rattle.lin_base.specs.Sum.{Terms, Valuation, value, value_of_terms, coef_in, has_unknown}
+use Rattle.lin_base.specs.Fact.{is_ascending, holds, holds_at, sum_of}
 use Rattle.lin_base.proofs.Merging.{is_below, ascending_parts}
 
 pub coef_in-below : (x : ℕ) (ts : Terms) → is_below x ts ≡ true → coef_in x ts ≡ pos 0
@@ -29,5 +31,20 @@ coef_in-drop ts i ascending h =
     let e = get_or ts i (0, pos 0) in
     at_drop_more (coef_in e.0) ts i (0, pos 0) h ∙ coef_in-first e (drop (i + 1) ts) (sym (at_drop_more is_ascending ts i (0, pos 0) h) ∙ ascending)
 
-pub has_unknown-empty : (t : Lin) → t.coefs ≡ [] → has_unknown t ≡ false
-has_unknown-empty t e = ap (λ ts. list_any (λ e. true) ts) e
+-- a sum without unknown is its constant
+pub value-constant : (v : Valuation) (t : Lin) → has_unknown t ≡ false → value v t ≡ t.constant
+value-constant v t h = at_terms t.coefs t.constant h
+  where
+    at_terms : (ts : Terms) (c : ℤ) → list_any (λ e. true) ts ≡ false → value_of_terms v ts +ℤ c ≡ c
+    at_terms [] c h = omega (arith, ints)
+    at_terms (e ∷ ts) c h = cc
+
+pub holds-at : (v : Valuation) (f : Fact) → holds v f ≡ holds_at (value v (sum_of f)) f
+holds-at v (AtMostZero t) = refl
+holds-at v (Zero t) = refl
+holds-at v (Divides m t) = refl
+holds-at v (NotDivides m t) = refl
+
+-- the truth of a fact without unknown
+pub holds-constant : (v : Valuation) (f : Fact) → has_unknown (sum_of f) ≡ false → holds v f ≡ holds_at (sum_of f).constant f
+holds-constant v f h = holds-at v f ∙ ap (λ z. holds_at z f) (value-constant v (sum_of f) h)

@@ -9,6 +9,7 @@ use Rattle.lin_base.specs.declared.sums.Lin.{Lin}
 use Rattle.lin_base.specs.Whole.{is_zero}
 use Rattle.lin_base.specs.Sum.{Terms, Valuation, value, value_of_terms, coef, coef_in, without, number, with_term, add_term, add_terms, scale_terms, add, scale, negated, add_number, each_unknown, assigned, occurs}
 use Rattle.lin_base.specs.Change.{replace_in}
+use Rattle.lin_base.specs.Combine.{add_scaled}
 use Rattle.lin_base.proofs.Ring.{mul-add, add-mul, mul_assoc, is_zero_out, one_mul, neg-mul, replaced_value}
 
 module _ (v : Valuation) where
@@ -44,6 +45,9 @@ module _ (v : Valuation) where
 
   pub value-negated : (t : Lin) → value v (negated t) ≡ neg_ℤ (value v t)
   value-negated t = omega (arith, ints, value-scale (negsuc 0) t, neg-mul (pos 1) (value v t), one_mul (value v t))
+
+  pub value-add_scaled : (so_far t : Lin) (k : ℤ) → value v (add_scaled so_far k t) ≡ value v so_far +ℤ k *ℤ value v t
+  value-add_scaled so_far t k = omega (arith, ints, value-add so_far (scale k t), value-scale k t)
 
   pub value-number : (c : ℤ) → value v (number c) ≡ c
   value-number c = omega (arith, ints)

@@ -11,11 +11,15 @@ use Rattle.lin_base.specs.Fact.{sum_of}
 abbrev pub replace_in : ℕ → ℤ → Lin → Lin → Lin
 replace_in x a t s = add (scale (coef x s) t) (scale a (without x s))
 
+-- the fact of the same kind about another sum, a modulus multiplied by a
+abbrev pub remade : ℤ → Lin → Fact → Fact
+remade a s (AtMostZero t) = AtMostZero s
+remade a s (Zero t) = Zero s
+remade a s (Divides m t) = Divides (a *ℤ m) s
+remade a s (NotDivides m t) = NotDivides (a *ℤ m) s
+
 abbrev pub replaced : ℕ → ℤ → Lin → Fact → Fact
-replaced x a t (AtMostZero s) = AtMostZero (replace_in x a t s)
-replaced x a t (Zero s) = Zero (replace_in x a t s)
-replaced x a t (Divides m s) = Divides (a *ℤ m) (replace_in x a t s)
-replaced x a t (NotDivides m s) = NotDivides (a *ℤ m) (replace_in x a t s)
+replaced x a t f = remade a (replace_in x a t (sum_of f)) f
 
 -- t for a*x: a fact without x stays
 abbrev pub replace : ℕ → ℤ → Lin → Fact → Fact

@@ -1,5 +1,5 @@
 -- The truth of facts and pools at whole numbers.
-use Rattle.std.specs.Prelude.{ℕ, pos, ◌≡◌, ◌<◌, Bool, true, not, ◌&&◌, int_le, nat_lt, IsTrue, List, [], ◌∷◌}
+use Rattle.std.specs.Prelude.{ℕ, ℤ, pos, ◌≡◌, ◌<◌, Bool, true, not, ◌&&◌, int_le, nat_lt, IsTrue, List, [], ◌∷◌}
 use Rattle.std.specs.List.{list_any, list_all, AllByRecursion}
 use Rattle.lin_base.specs.declared.sums.Lin.{Lin}
 use Rattle.lin_base.specs.declared.facts.Fact.{Fact}
@@ -20,6 +20,13 @@ holds v (AtMostZero t) = int_le (value v t) (pos 0)
 holds v (Zero t) = is_zero (value v t)
 holds v (Divides m t) = divides m (value v t)
 holds v (NotDivides m t) = not (divides m (value v t))
+
+-- the fact is true where its sum is z
+abbrev pub holds_at : ℤ → Fact → Bool
+holds_at z (AtMostZero t) = int_le z (pos 0)
+holds_at z (Zero t) = is_zero z
+holds_at z (Divides m t) = divides m z
+holds_at z (NotDivides m t) = not (divides m z)
 
 -- the fact has no unknown and is false
 abbrev pub is_false : Fact → Bool

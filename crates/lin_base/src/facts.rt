@@ -141,18 +141,22 @@ pub fn divides(m: i128, z: i128) -> bool
     }
 }
 
+/// Whether the fact is true where its sum is `z`.
+pub fn holds_at(fact: &Fact, z: i128) -> bool
+    ensures { result ≡ spec.holds_at z fact.now }
+{
+    match fact {
+        Fact::AtMostZero(_) => z <= 0,
+        Fact::Zero(_) => z == 0,
+        Fact::Divides(m, _) => divides(*m, z),
+        Fact::NotDivides(m, _) => !divides(*m, z),
+    }
+}
+
 /// Whether the fact has no unknown and is false, so that it holds at no values.
 pub fn is_false(fact: &Fact) -> bool
     ensures value { result ≡ spec.is_false fact.now }
     ensures refutes { IsTrue result → (v : Valuation) → spec.holds v fact.now ≡ false }
 {
-    if has_unknown(fact.sum()) {
-        return false;
-    }
-    match fact {
-        Fact::AtMostZero(t) => t.constant > 0,
-        Fact::Zero(t) => t.constant != 0,
-        Fact::Divides(m, t) => !divides(*m, t.constant),
-        Fact::NotDivides(m, t) => divides(*m, t.constant),
-    }
+    !has_unknown(fact.sum()) && !holds_at(fact, fact.sum().constant)
 }
