@@ -1,5 +1,5 @@
 -- The first step that leaves the range, of steps one after the other.
-use Rattle.std.specs.Prelude.{◌≡◌, Bool, true, false, not, cond, List, [], ◌∷◌, ◌++◌, Some, None, Ok, Err, Option, Result}
+use Rattle.std.specs.Prelude.{◌≡◌, Bool, true, false, not, cond, List, [], ◌∷◌, ◌++◌, Some, None, Ok, Err, Option, Result, IfOk}
 use Rattle.std.proofs.Common.{refl, sym, ◌∙◌, ap, subst}
 use Rattle.std.specs.Option.{option_or}
 use Rattle.std.proofs.lemmas.List.Folds.{find-append}
@@ -56,5 +56,25 @@ Forms-err (Err d) e steps a is h = let same : d ≡ e = cc in (tt, subst (λ f. 
 pub Forms-after : {A : Type 0} (r : Result A ArithmeticError) (ss ts : List Wide) (a : A) → first_wide ss ≡ None → Forms r ts a → Forms r (ss ++ ts) a
 Forms-after (Ok v) ss ts a n h = ((first_wide-append_none ss ts n ∙ h.0.0, h.0.1), tt)
 Forms-after (Err e) ss ts a n h = (tt, IsErrorAt-append_none e ss ts n h.1)
+
+-- what the answer of a call without memory tells
+unless-ok : {A : Type 0} (o : Option Wide) (a v : A) → unless o a ≡ Ok v → (o ≡ None) × (v ≡ a)
+unless-ok None a v h = (refl, cc)
+unless-ok (Some w) a v h = absurd (cc)
+
+unless-err : {A : Type 0} (o : Option Wide) (a : A) (w : Wide) → unless o a ≡ Err w → o ≡ Some w
+unless-err None a w h = absurd (cc)
+unless-err (Some u) a w h = cc
+
+pub formed_by-ok : {A : Type 0} (steps : List Wide) (a v : A) → formed_by steps a ≡ Ok v → (first_wide steps ≡ None) × (v ≡ a)
+formed_by-ok steps a v h = unless-ok (first_wide steps) a v h
+
+pub formed_by-err : {A : Type 0} (steps : List Wide) (a : A) (w : Wide) → formed_by steps a ≡ Err w → first_wide steps ≡ Some w
+formed_by-err steps a w h = unless-err (first_wide steps) a w h
+
+-- a property of the value that a call forms
+pub Forms-value : {A : Type 0} (P : A → Type 0) (r : Result A ArithmeticError) (steps : List Wide) (a : A) → Forms r steps a → P a → IfOk r P
+Forms-value P (Ok v) steps a h p = subst P (sym h.0.1) p
+Forms-value P (Err e) steps a h p = tt
 
 pub ruleset forming = (common_steps, to_z-of_z, first_wide-err, first_wide-ok, first_wide-append_none, first_wide-append_some)
