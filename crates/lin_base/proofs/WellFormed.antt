@@ -1,6 +1,6 @@
 -- Well-formed sums and facts: what is formed of them is well formed.
-use Rattle.std.specs.Prelude.{◌≡◌, ℕ, ◌<◌, ℤ, pos, ◌+ℤ◌, ◌*ℤ◌, ◌≤ℤ◌, int_le, int_div, map, Bool, true, false, not, cond, ◌==◌, ◌&&◌, nat_lt, List, [], ◌∷◌, if◌then◌else◌}
-use Rattle.std.specs.List.{list_all, filter, AllByRecursion}
+use Rattle.std.specs.Prelude.{◌≡◌, ℕ, ℤ, pos, ◌+ℤ◌, ◌*ℤ◌, ◌≤ℤ◌, int_le, int_div, map, Bool, true, false, not, ◌==◌, nat_lt, [], ◌∷◌, if◌then◌else◌}
+use Rattle.std.specs.List.{filter, AllByRecursion}
 use Rattle.std.proofs.Common.{refl, sym, ◌∙◌, ap, arith}
 use Rattle.std.proofs.lemmas.Bool.{cond_both, and_parts, and_from, eqb-true, true≢false}
 use Rattle.std.proofs.lemmas.Int.{ints}
@@ -10,7 +10,7 @@ use Rattle.lin_base.specs.declared.sums.Lin.{Lin}
 use Rattle.lin_base.specs.declared.facts.Fact.{Fact}
 use Rattle.lin_base.specs.declared.facts.Fact.TheVariants.{AtMostZero, Zero, Divides, NotDivides}
 use Rattle.lin_base.specs.Whole.{is_zero, divides}
-use Rattle.lin_base.specs.Sum.{Terms, is_reduced, with_term, add_term, add_terms, scale_terms, add, scale, negated, number, add_number, without, coef, occurs}
+use Rattle.lin_base.specs.Sum.{Terms, is_reduced, with_term, add_term, add_terms, scale_terms, add, scale, number, add_number, without, coef, occurs}
 use Rattle.lin_base.specs.Combine.{add_scaled}
 use Rattle.lin_base.specs.Fact.{sum_of, is_ascending, is_lin, is_fact}
 use Rattle.lin_base.specs.Change.{replace_in, replaced, replace, common_divisor, tight_by, tight}
@@ -43,8 +43,8 @@ ascending-add_term x k ((y, l) ∷ us) h =
     (λ d. cond_both (x == y) (with_term x (k +ℤ l) us) ((y, l) ∷ add_term x k us) P
     (λ e. ascending-with_term x (k +ℤ l) us (ap (λ z. is_below z us) (eqb-true x y e) ∙ parts.0) parts.1)
     (λ e.
-      let above : nat_lt y x ≡ true = grind (arith, nat_tests) in
-      ascending_cons (y, l) (add_term x k us) (add_term-keeps_below y x k us above parts.0) (ascending-add_term x k us parts.1)))
+    let above : nat_lt y x ≡ true = grind (arith, nat_tests) in
+    ascending_cons (y, l) (add_term x k us) (add_term-keeps_below y x k us above parts.0) (ascending-add_term x k us parts.1)))
 
 ascending-add_terms : (ts us : Terms) → is_ascending us ≡ true → is_ascending (add_terms ts us) ≡ true
 ascending-add_terms [] us h = h

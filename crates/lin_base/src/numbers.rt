@@ -24,7 +24,11 @@ pub(crate) fn quotient(a: i128, divisor: u128) -> i128
     ensures { result ≡ int_div a (pos divisor) }
 {
     let magnitude = a.unsigned_abs() / divisor;
-    if a < 0 { negative(magnitude) } else { magnitude as i128 }
+    if a < 0 {
+        negative(magnitude)
+    } else {
+        magnitude as i128
+    }
 }
 
 /// `a` divided by `divisor`, rounded up. The divisor may be 2^127.

@@ -28,13 +28,7 @@ fn add_products(alloc: Global, b: i128, t: &Lin, a: i128, u: &Lin) -> Result<Lin
 }
 
 /// `b * t + a * u` for the sum `b * x + u`.
-fn replace_in(
-    alloc: Global,
-    x: u32,
-    a: i128,
-    t: &Lin,
-    sum: &Lin,
-) -> Result<Lin, ArithmeticError>
+fn replace_in(alloc: Global, x: u32, a: i128, t: &Lin, sum: &Lin) -> Result<Lin, ArithmeticError>
     requires value { IsTrue (is_lin t.now) }
     requires sum { IsTrue (is_lin sum.now) }
     ensures { Forms result (replace_in_steps x a t.now sum.now) (spec.replace_in x a t.now sum.now) }
@@ -56,13 +50,7 @@ fn remade(a: i128, sum: Lin, fact: &Fact) -> Result<Fact, Wide>
 }
 
 /// `replace` of a fact with `x`.
-fn replaced(
-    alloc: Global,
-    fact: &Fact,
-    x: u32,
-    a: i128,
-    t: &Lin,
-) -> Result<Fact, ArithmeticError>
+fn replaced(alloc: Global, fact: &Fact, x: u32, a: i128, t: &Lin) -> Result<Fact, ArithmeticError>
     requires value { IsTrue (is_lin t.now) }
     requires sum { IsTrue (is_lin (sum_of fact.now)) }
     ensures { Forms result (replace_in_steps x a t.now (sum_of fact.now) ++ modulus_steps a fact.now)

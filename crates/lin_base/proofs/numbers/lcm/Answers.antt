@@ -1,4 +1,4 @@
-use Rattle.std.proofs.Common.{◌≡◌, ◌<◌, sym, subst, arith, ℕ}
+use Rattle.std.proofs.Common.{arith}
 use Rattle.lin_base.proofs.Divisors.{gcd_positive}
 use Rattle.lin_base.proofs.numbers.lcm.Goals as goal
 

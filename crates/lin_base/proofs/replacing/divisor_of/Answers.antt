@@ -12,7 +12,7 @@ loop-term-preserved c =
     let i = c.loop-term.term-index in
     let k = (get_or ts i (0, pos 0)).1 in
     let rest = common_divisor (drop (i + 1) ts) in
-    let told : c.common_divisor.result ≡ gcd_of c.loop-term.divisor (unsigned_abs k) = grind arith in
+    let told : c.common_divisor-divisor.result ≡ gcd_of c.loop-term.divisor (unsigned_abs k) = grind arith in
     c.loop-term.invariant
     ∙ ap (gcd_of c.loop-term.divisor) (at_drop_more common_divisor ts i (0, pos 0) c.loop-term-test.true)
     ∙ gcd_of_assoc c.loop-term.divisor (unsigned_abs k) rest

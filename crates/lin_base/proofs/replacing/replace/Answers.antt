@@ -1,12 +1,12 @@
-use Rattle.std.proofs.Common.{◌≡◌, ◌∙◌, ap, sym, subst, ◌++◌, [], arith, ℤ, Bool, true, cond, IsTrue, to_z, of_z}
+use Rattle.std.proofs.Common.{◌≡◌, sym, subst, ◌++◌, [], arith, ℤ, Bool, true, cond, IsTrue, to_z, of_z}
 use Rattle.std.specs.Int.{w128}
 use Rattle.std.proofs.lemmas.Int.{to_z-of_z}
 use Rattle.std.proofs.lemmas.Grind.{common_steps}
 use Rattle.lin_base.specs.declared.facts.Fact.{Fact}
 use Rattle.lin_base.specs.Sum.{occurs}
 use Rattle.lin_base.specs.Fact.{sum_of, is_fact}
-use Rattle.lin_base.specs.Change.{replaced, replace}
-use Rattle.lin_base.specs.Steps.{replace_in_steps, modulus_steps, replace_steps, Forms}
+use Rattle.lin_base.specs.Change.{replaced}
+use Rattle.lin_base.specs.Steps.{replace_in_steps, modulus_steps, Forms}
 use Rattle.lin_base.proofs.Forming.{Forms-value}
 use Rattle.lin_base.proofs.WellFormed.{is_fact-replaced}
 use Rattle.lin_base.proofs.replacing.replace.Goals as goal

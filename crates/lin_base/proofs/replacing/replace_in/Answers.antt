@@ -1,9 +1,9 @@
-use Rattle.std.proofs.Common.{◌≡◌, ◌∙◌, ap, sym, subst, ◌++◌, arith, ℤ, to_z, of_z}
+use Rattle.std.proofs.Common.{◌≡◌, subst, ◌++◌, arith, ℤ, to_z, of_z}
 use Rattle.std.specs.Int.{w128}
 use Rattle.std.proofs.lemmas.Int.{to_z-of_z}
 use Rattle.std.proofs.lemmas.Grind.{common_steps}
 use Rattle.lin_base.specs.declared.sums.Lin.{Lin}
-use Rattle.lin_base.specs.Sum.{scale, add, coef, without}
+use Rattle.lin_base.specs.Sum.{scale, add, coef}
 use Rattle.lin_base.specs.Steps.{scale_steps, add_steps, Forms}
 use Rattle.lin_base.proofs.replacing.replace_in.Goals as goal
 

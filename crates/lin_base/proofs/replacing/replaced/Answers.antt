@@ -1,13 +1,12 @@
-use Rattle.std.proofs.Common.{◌≡◌, ◌∙◌, ap, sym, subst, ◌++◌, arith, ℤ, Ok, Err, Some, None, to_z, of_z}
+use Rattle.std.proofs.Common.{◌≡◌, ◌∙◌, ap, sym, subst, ◌++◌, arith, ℤ, Err, Some, None, to_z, of_z}
 use Rattle.std.specs.Int.{w128}
 use Rattle.std.proofs.lemmas.Int.{to_z-of_z}
 use Rattle.std.proofs.lemmas.Grind.{common_steps}
 use Rattle.lin_base.specs.declared.sums.Lin.{Lin}
-use Rattle.lin_base.specs.declared.facts.Fact.{Fact}
 use Rattle.lin_base.specs.declared.wides.ArithmeticError.TheVariants.{Wide as TooWide}
 use Rattle.lin_base.specs.Fact.{sum_of}
 use Rattle.lin_base.specs.Change.{replace_in, replaced, remade}
-use Rattle.lin_base.specs.Steps.{replace_in_steps, modulus_steps, first_wide, formed_by, IsErrorAt}
+use Rattle.lin_base.specs.Steps.{replace_in_steps, modulus_steps, first_wide, IsErrorAt}
 use Rattle.lin_base.proofs.Forming.{Forms-err, IsErrorAt-append_some, first_wide-append_none, formed_by-ok, formed_by-err}
 use Rattle.lin_base.proofs.replacing.replaced.Goals as goal
 

@@ -1,5 +1,4 @@
 use Rattle.std.proofs.Common.{◌≡◌, ◌∙◌, ap, IfOk, IsTrue, Result, Ok, Err}
-use Rattle.lin_base.specs.declared.facts.Fact.{Fact}
 use Rattle.lin_base.specs.Sum.{Valuation}
 use Rattle.lin_base.specs.Fact.{holds, is_fact}
 use Rattle.lin_base.specs.Change.{tight}

@@ -1,4 +1,4 @@
-use Rattle.std.proofs.Common.{◌≡◌, arith, ap, sym, refl, ◌∙◌, Bool, true, false, not, [], ◌∷◌, List, IsTrue, ℕ, ℤ}
+use Rattle.std.proofs.Common.{◌≡◌, ap, refl, Bool, true, false, not, [], ◌∷◌, IsTrue}
 use Rattle.std.specs.List.{list_any}
 use Rattle.lin_base.specs.Sum.{Terms}
 use Rattle.lin_base.proofs.sums.has_unknown.Goals as goal

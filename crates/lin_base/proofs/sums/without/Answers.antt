@@ -1,4 +1,4 @@
-use Rattle.std.proofs.Common.{◌≡◌, arith, ap, sym, ◌∙◌, ◌&&◌}
+use Rattle.std.proofs.Common.{◌≡◌, arith, ap, ◌∙◌, ◌&&◌}
 use Rattle.lin_base.specs.Sum.{without, is_reduced}
 use Rattle.lin_base.specs.Fact.{is_ascending}
 use Rattle.std.proofs.lemmas.Grind.{common_steps}
