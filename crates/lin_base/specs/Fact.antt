@@ -8,6 +8,7 @@ use Rattle.lin_base.specs.declared.facts.Pool.{Pool}
 use Rattle.lin_base.specs.Whole.{is_zero, divides}
 use Rattle.lin_base.specs.Sum.{Terms, Valuation, value, is_reduced, has_unknown}
 
+-- the sum that a fact speaks of
 abbrev pub sum_of : Fact → Lin
 sum_of (AtMostZero t) = t
 sum_of (Zero t) = t
@@ -70,5 +71,6 @@ is_fact (Zero t) = is_lin t
 is_fact (Divides m t) = int_le (pos 2) m && is_lin t
 is_fact (NotDivides m t) = int_le (pos 2) m && is_lin t
 
+-- each literal of each clause
 abbrev pub is_pool : Pool → Bool
 is_pool pool = list_all (list_all is_fact) pool.clauses

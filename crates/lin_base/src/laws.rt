@@ -5,10 +5,16 @@ ghost use Rattle.std.specs.Prelude.{◌≡◌, ℕ, ℤ, pos, ◌+ℤ◌, ◌*�
 ghost use Rattle.lin_base.specs.declared.sums.Lin.{Lin};
 ghost use Rattle.lin_base.specs.declared.facts.Fact.{Fact};
 ghost use Rattle.lin_base.specs.Whole.{divides, lcm};
-ghost use Rattle.lin_base.specs.Sum.{Valuation, value, number, add, scale, negated, add_number};
+ghost use Rattle.lin_base.specs.Sum.{Valuation, value, coef, number, add, scale, negated, add_number};
 ghost use Rattle.lin_base.specs.Combine.{add_scaled};
 ghost use Rattle.lin_base.specs.Fact.{holds, is_lin, is_fact};
 ghost use Rattle.lin_base.specs.Change.{replace, tight};
+
+/// Each unknown's coefficient in a sum of sums, and in a multiple.
+pub fn coefficients()
+    ensures sum { (x : ℕ) (t u : Lin) → coef x (add t u) ≡ coef x t +ℤ coef x u }
+    ensures multiple { (x : ℕ) (k : ℤ) (t : Lin) → coef x (scale k t) ≡ k *ℤ coef x t }
+{}
 
 /// The value of a sum of sums is the sum of the values.
 pub fn value_of_add()

@@ -8,6 +8,8 @@ pub mod laws;
 mod numbers;
 mod replacing;
 mod sums;
+#[cfg(test)]
+mod tests;
 mod wides;
 
 pub use changes::{add, add_number, add_scaled, negate, scale};
