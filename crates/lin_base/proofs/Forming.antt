@@ -1,13 +1,15 @@
 -- The first step that leaves the range, of steps one after the other.
-use Rattle.std.specs.Prelude.{◌≡◌, Bool, true, false, not, cond, List, [], ◌∷◌, ◌++◌, Some, None, Ok, Err, Option, Result}
-use Rattle.std.proofs.Common.{refl, sym, ◌∙◌, ap}
+use Rattle.std.specs.Prelude.{◌≡◌, Bool, true, false, not, cond, List, [], ◌∷◌, ◌++◌, Some, None, Ok, Err, Option, Result, IfOk}
+use Rattle.std.proofs.Common.{refl, sym, ◌∙◌, ap, subst}
 use Rattle.std.specs.Option.{option_or}
 use Rattle.std.proofs.lemmas.List.Folds.{find-append}
 use Rattle.std.proofs.lemmas.Int.{to_z-of_z}
 use Rattle.std.proofs.lemmas.Grind.{common_steps}
 use Rattle.lin_base.specs.declared.wides.Wide.{Wide}
+use Rattle.lin_base.specs.declared.wides.ArithmeticError.{ArithmeticError}
+use Rattle.lin_base.specs.declared.wides.ArithmeticError.TheVariants.{Memory, Wide as TooWide}
 use Rattle.lin_base.specs.Whole.{is_in_range}
-use Rattle.lin_base.specs.Steps.{result_of, first_wide, formed_by, unless}
+use Rattle.lin_base.specs.Steps.{result_of, first_wide, formed_by, unless, IsErrorAt, Forms}
 
 by_err : {A : Type 0} (b : Bool) (s : Wide) (z : A) (rest : Option Wide) (w : Wide) → unless (cond b (Some s) None) z ≡ Err w → cond b (Some s) rest ≡ Some w
 by_err true s z rest w h = cc
@@ -35,5 +37,44 @@ first_wide-append_none ss ts h = first_wide-append ss ts ∙ ap (λ o. option_or
 -- steps that leave it
 pub first_wide-append_some : (ss ts : List Wide) (w : Wide) → first_wide ss ≡ Some w → first_wide (ss ++ ts) ≡ Some w
 first_wide-append_some ss ts w h = first_wide-append ss ts ∙ ap (λ o. option_or o (first_wide ts)) h
+
+-- an error of the first steps, or of those after steps that stay in the range
+pub IsErrorAt-append_some : (e : ArithmeticError) (ss ts : List Wide) → IsErrorAt e (first_wide ss) → IsErrorAt e (first_wide (ss ++ ts))
+IsErrorAt-append_some Memory ss ts h = tt
+IsErrorAt-append_some (TooWide w) ss ts h = first_wide-append_some ss ts w h
+
+pub IsErrorAt-append_none : (e : ArithmeticError) (ss ts : List Wide) → first_wide ss ≡ None → IsErrorAt e (first_wide ts) → IsErrorAt e (first_wide (ss ++ ts))
+IsErrorAt-append_none Memory ss ts n h = tt
+IsErrorAt-append_none (TooWide w) ss ts n h = first_wide-append_none ss ts n ∙ h
+
+-- a call that ends in this error
+pub Forms-err : {A : Type 0} (r : Result A ArithmeticError) (e : ArithmeticError) (steps : List Wide) (a : A) → r ≡ Err e → IsErrorAt e (first_wide steps) → Forms r steps a
+Forms-err (Ok v) e steps a is h = cc
+Forms-err (Err d) e steps a is h = let same : d ≡ e = cc in (tt, subst (λ f. IsErrorAt f (first_wide steps)) (sym same) h)
+
+-- a call after steps that stay in the range
+pub Forms-after : {A : Type 0} (r : Result A ArithmeticError) (ss ts : List Wide) (a : A) → first_wide ss ≡ None → Forms r ts a → Forms r (ss ++ ts) a
+Forms-after (Ok v) ss ts a n h = ((first_wide-append_none ss ts n ∙ h.0.0, h.0.1), tt)
+Forms-after (Err e) ss ts a n h = (tt, IsErrorAt-append_none e ss ts n h.1)
+
+-- what the answer of a call without memory tells
+unless-ok : {A : Type 0} (o : Option Wide) (a v : A) → unless o a ≡ Ok v → (o ≡ None) × (v ≡ a)
+unless-ok None a v h = (refl, cc)
+unless-ok (Some w) a v h = absurd (cc)
+
+unless-err : {A : Type 0} (o : Option Wide) (a : A) (w : Wide) → unless o a ≡ Err w → o ≡ Some w
+unless-err None a w h = absurd (cc)
+unless-err (Some u) a w h = cc
+
+pub formed_by-ok : {A : Type 0} (steps : List Wide) (a v : A) → formed_by steps a ≡ Ok v → (first_wide steps ≡ None) × (v ≡ a)
+formed_by-ok steps a v h = unless-ok (first_wide steps) a v h
+
+pub formed_by-err : {A : Type 0} (steps : List Wide) (a : A) (w : Wide) → formed_by steps a ≡ Err w → first_wide steps ≡ Some w
+formed_by-err steps a w h = unless-err (first_wide steps) a w h
+
+-- a property of the value that a call forms
+pub Forms-value : {A : Type 0} (P : A → Type 0) (r : Result A ArithmeticError) (steps : List Wide) (a : A) → Forms r steps a → P a → IfOk r P
+Forms-value P (Ok v) steps a h p = subst P (sym h.0.1) p
+Forms-value P (Err e) steps a h p = tt
 
 pub ruleset forming = (common_steps, to_z-of_z, first_wide-err, first_wide-ok, first_wide-append_none, first_wide-append_some)

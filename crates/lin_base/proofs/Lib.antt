@@ -2,10 +2,13 @@ pub mod Ring
 pub mod Values
 pub mod Truth
 pub mod Divisors
-pub mod Tight
+pub mod Tightening
 pub mod Combine
 pub mod Rows
 pub mod Forming
 pub mod Scaling
 pub mod Merging
 pub mod WellFormed
+pub mod Lookup
+pub mod Equality
+pub mod Kept

@@ -1,11 +1,11 @@
 -- The sum of two lists of terms whose unknowns ascend, term by term from the front.
-use Rattle.std.specs.Prelude.{◌≡◌, ℕ, ◌-◌, ◌<◌, ◌⊎◌, ℤ, pos, ◌+ℤ◌, Bool, true, false, not, cond, ◌==◌, ◌&&◌, nat_lt, List, [], ◌∷◌, ◌++◌, if◌then◌else◌, IsTrue}
+use Rattle.std.specs.Prelude.{◌≡◌, ℕ, ◌-◌, ◌<◌, ◌⊎◌, ℤ, pos, ◌+ℤ◌, Bool, true, false, cond, ◌==◌, nat_lt, [], ◌∷◌, ◌++◌, if◌then◌else◌, IsTrue}
 use Rattle.std.specs.List.{list_all}
 use Rattle.std.proofs.Common.{refl, sym, ◌∙◌, ap, subst, inl, inr, arith, length, get_or, take, drop}
 use Rattle.std.proofs.Math.Seq.{take-length}
 use Rattle.std.proofs.lemmas.List.{append-nil}
 use Rattle.lin_base.specs.Whole.{is_zero}
-use Rattle.std.proofs.lemmas.Bool.{cond_both, and_parts, and_from, eqb-true, eqb-false, true≢false}
+use Rattle.std.proofs.lemmas.Bool.{cond_both, and_parts, and_from}
 use Rattle.std.proofs.lemmas.Bool.Decides.{nat_tests}
 use Rattle.lin_base.specs.Sum.{Terms, with_term, add_term, add_terms}
 use Rattle.lin_base.specs.Fact.{is_ascending}
@@ -155,19 +155,19 @@ module _ (a b : ℕ × ℤ) (ts' us' ts us : Terms) (e : ts ≡ a ∷ ts') (f : 
   pub merge-lower : a.0 < b.0 → (add_terms ts us ≡ a ∷ add_terms ts' us) × (add_terms_steps ts us ≡ add_terms_steps ts' us)
   merge-lower h = (
     ap (λ t. add_terms t us) e ∙ ap (λ u. add_terms (a ∷ ts') u) f ∙ add_terms-lower a b ts' us' left_list right_list h ∙ ap (λ u. a ∷ add_terms ts' u) (sym f),
-    ap (λ t. add_terms_steps t us) e ∙ ap (λ u. add_terms_steps (a ∷ ts') u) f ∙ add_terms_steps-lower a b ts' us' left_list right_list h ∙ ap (λ u. add_terms_steps ts' u) (sym f)
+    ap (λ t. add_terms_steps t us) e ∙ ap (λ u. add_terms_steps (a ∷ ts') u) f ∙ add_terms_steps-lower a b ts' us' left_list right_list h ∙ ap (λ u. add_terms_steps ts' u) (sym f),
   )
 
   pub merge-higher : b.0 < a.0 → (add_terms ts us ≡ b ∷ add_terms ts us') × (add_terms_steps ts us ≡ add_terms_steps ts us')
   merge-higher h = (
     ap (λ t. add_terms t us) e ∙ ap (λ u. add_terms (a ∷ ts') u) f ∙ add_terms-higher a b ts' us' left_list right_list h ∙ ap (λ t. b ∷ add_terms t us') (sym e),
-    ap (λ t. add_terms_steps t us) e ∙ ap (λ u. add_terms_steps (a ∷ ts') u) f ∙ add_terms_steps-higher a b ts' us' left_list right_list h ∙ ap (λ t. add_terms_steps t us') (sym e)
+    ap (λ t. add_terms_steps t us) e ∙ ap (λ u. add_terms_steps (a ∷ ts') u) f ∙ add_terms_steps-higher a b ts' us' left_list right_list h ∙ ap (λ t. add_terms_steps t us') (sym e),
   )
 
   pub merge-same : b.0 ≡ a.0 → (add_terms ts us ≡ with_term a.0 (a.1 +ℤ b.1) (add_terms ts' us')) × (add_terms_steps ts us ≡ adds a.1 b.1 ∷ add_terms_steps ts' us')
   merge-same h = (
     ap (λ t. add_terms t us) e ∙ ap (λ u. add_terms (a ∷ ts') u) f ∙ add_terms-same a b ts' us' left_list right_list h,
-    ap (λ t. add_terms_steps t us) e ∙ ap (λ u. add_terms_steps (a ∷ ts') u) f ∙ add_terms_steps-same a b ts' us' left_list right_list h
+    ap (λ t. add_terms_steps t us) e ∙ ap (λ u. add_terms_steps (a ∷ ts') u) f ∙ add_terms_steps-same a b ts' us' left_list right_list h,
   )
 
 -- a list that isn't empty begins with its first term

@@ -28,3 +28,10 @@ gcd_least = refl
 
 ceil_rows : List (div_ceil (negsuc 2) (pos 2) ≡ negsuc 0)
 ceil_rows = refl ∷ []
+
+-- the common divisor is 2^127
+tight_greatest : tight (AtMostZero (record { coefs = (0, negsuc (2 ^ 127 - 1)) ∷ []; constant = pos 5 })) ≡ AtMostZero (record { coefs = (0, negsuc 0) ∷ []; constant = pos 1 })
+tight_greatest = refl
+
+tight_least : tight (AtMostZero (record { coefs = (0, negsuc (2 ^ 127 - 1)) ∷ []; constant = negsuc (2 ^ 127 - 1) })) ≡ AtMostZero (record { coefs = (0, negsuc 0) ∷ []; constant = negsuc 0 })
+tight_least = refl

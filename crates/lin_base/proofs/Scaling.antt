@@ -14,4 +14,3 @@ scale_terms-drop k ts i h = at_drop_more (scale_terms k) ts i (0, pos 0) h
 
 pub with_term-append : (x : ℕ) (k : ℤ) (ts : Terms) → with_term x k ts ≡ with_term x k [] ++ ts
 with_term-append x k ts = cond_both (is_zero k) [] ((x, k) ∷ []) (λ us. cond (is_zero k) ts ((x, k) ∷ ts) ≡ us ++ ts) (λ e. rw e refl) (λ e. rw e refl)
-

@@ -4,11 +4,12 @@ use Rattle.std.specs.List.{filter, list_all, list_any}
 use Rattle.std.proofs.Common.{refl, sym, ◌∙◌, ap, arith}
 use Rattle.std.proofs.lemmas.Int.{ints}
 use Rattle.std.proofs.lemmas.Bool.{cond_both, eqb-true, and_parts, and_from, both_ways, not-true, eqb-false, true≢false}
-use Rattle.std.proofs.Math.IntN.{zero-*ℤ, *ℤ-zero}
+use Rattle.std.proofs.Math.IntN.{zero-*ℤ, *ℤ-zero, *ℤ_comm}
 use Rattle.lin_base.specs.declared.sums.Lin.{Lin}
 use Rattle.lin_base.specs.Whole.{is_zero}
 use Rattle.lin_base.specs.Sum.{Terms, Valuation, value, value_of_terms, coef, coef_in, without, number, with_term, add_term, add_terms, scale_terms, add, scale, negated, add_number, each_unknown, assigned, occurs}
 use Rattle.lin_base.specs.Change.{replace_in}
+use Rattle.lin_base.specs.Combine.{add_scaled}
 use Rattle.lin_base.proofs.Ring.{mul-add, add-mul, mul_assoc, is_zero_out, one_mul, neg-mul, replaced_value}
 
 module _ (v : Valuation) where
@@ -44,6 +45,9 @@ module _ (v : Valuation) where
 
   pub value-negated : (t : Lin) → value v (negated t) ≡ neg_ℤ (value v t)
   value-negated t = omega (arith, ints, value-scale (negsuc 0) t, neg-mul (pos 1) (value v t), one_mul (value v t))
+
+  pub value-add_scaled : (so_far t : Lin) (k : ℤ) → value v (add_scaled so_far k t) ≡ value v so_far +ℤ k *ℤ value v t
+  value-add_scaled so_far t k = omega (arith, ints, value-add so_far (scale k t), value-scale k t)
 
   pub value-number : (c : ℤ) → value v (number c) ≡ c
   value-number c = omega (arith, ints)
@@ -115,3 +119,24 @@ absent_coef x ((y, k) ∷ ts) h =
 
 pub coef-absent : (x : ℕ) (t : Lin) → occurs x t ≡ false → coef x t ≡ pos 0
 coef-absent x t h = absent_coef x t.coefs h
+
+-- ---- a coefficient is the value where its unknown is 1 and each other one 0
+abbrev unit : ℕ → Valuation
+unit x y = if y == x then pos 1 else pos 0
+
+coef_cons : (b : Bool) (k c w : ℤ) → c ≡ w → (if b then k +ℤ c else c) ≡ k *ℤ (if b then pos 1 else pos 0) +ℤ w
+coef_cons true k c w e = omega (arith, ints, e, one_mul k, *ℤ_comm k (pos 1))
+coef_cons false k c w e = omega (arith, ints, e, *ℤ-zero k)
+
+coef_is_value : (x : ℕ) (ts : Terms) → coef_in x ts ≡ value_of_terms (unit x) ts
+coef_is_value x [] = refl
+coef_is_value x ((y, k) ∷ ts) = coef_cons (y == x) k (coef_in x ts) (value_of_terms (unit x) ts) (coef_is_value x ts)
+
+pub coef-add : (x : ℕ) (t u : Lin) → coef x (add t u) ≡ coef x t +ℤ coef x u
+coef-add x t u =
+    coef_is_value x (add_terms t.coefs u.coefs) ∙ value-add_terms (unit x) t.coefs u.coefs
+    ∙ ap (λ z. z +ℤ value_of_terms (unit x) u.coefs) (sym (coef_is_value x t.coefs)) ∙ ap (λ z. coef x t +ℤ z) (sym (coef_is_value x u.coefs))
+
+pub coef-scale : (x : ℕ) (k : ℤ) (t : Lin) → coef x (scale k t) ≡ k *ℤ coef x t
+coef-scale x k t =
+    coef_is_value x (scale_terms k t.coefs) ∙ value-scale_terms (unit x) k t.coefs ∙ ap (λ z. k *ℤ z) (sym (coef_is_value x t.coefs))

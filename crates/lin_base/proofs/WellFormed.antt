@@ -1,19 +1,22 @@
 -- Well-formed sums and facts: what is formed of them is well formed.
-use Rattle.std.specs.Prelude.{◌≡◌, ℕ, ◌<◌, ℤ, pos, ◌+ℤ◌, ◌*ℤ◌, Bool, true, false, not, cond, ◌==◌, ◌&&◌, nat_lt, List, [], ◌∷◌, if◌then◌else◌}
-use Rattle.std.specs.List.{list_all, filter}
+use Rattle.std.specs.Prelude.{◌≡◌, ℕ, ℤ, pos, ◌+ℤ◌, ◌*ℤ◌, ◌≤ℤ◌, int_le, int_div, map, Bool, true, false, not, ◌==◌, nat_lt, [], ◌∷◌, if◌then◌else◌}
+use Rattle.std.specs.List.{filter, AllByRecursion}
 use Rattle.std.proofs.Common.{refl, sym, ◌∙◌, ap, arith}
-use Rattle.std.proofs.lemmas.Bool.{cond_both, and_parts, and_from, eqb-true, eqb-false}
+use Rattle.std.proofs.lemmas.Bool.{cond_both, and_parts, and_from, eqb-true, true≢false}
+use Rattle.std.proofs.lemmas.Int.{ints}
+use Rattle.std.proofs.Math.IntN.{zero-*ℤ}
 use Rattle.std.proofs.lemmas.Bool.Decides.{nat_tests}
 use Rattle.lin_base.specs.declared.sums.Lin.{Lin}
-use Rattle.lin_base.specs.Whole.{is_zero}
-use Rattle.lin_base.specs.Sum.{Terms, with_term, add_term, add_terms, scale_terms, add, scale, negated, number, add_number, without}
+use Rattle.lin_base.specs.declared.facts.Fact.{Fact}
+use Rattle.lin_base.specs.declared.facts.Fact.TheVariants.{AtMostZero, Zero, Divides, NotDivides}
+use Rattle.lin_base.specs.Whole.{is_zero, divides}
+use Rattle.lin_base.specs.Sum.{Terms, is_reduced, with_term, add_term, add_terms, scale_terms, add, scale, number, add_number, without, coef, occurs}
 use Rattle.lin_base.specs.Combine.{add_scaled}
-use Rattle.lin_base.specs.Fact.{is_ascending, is_lin}
+use Rattle.lin_base.specs.Fact.{sum_of, is_ascending, is_lin, is_fact}
+use Rattle.lin_base.specs.Change.{replace_in, replaced, replace, common_divisor, tight_by, tight}
+use Rattle.lin_base.proofs.Ring.{le_in, one_mul, divides_in, is_zero_in, is_zero_out}
+use Rattle.lin_base.proofs.Tightening.{mul_mono, all_divided, exact}
 use Rattle.lin_base.proofs.Merging.{is_below, ascending_parts, lower, add_term-keeps_below}
-
--- no coefficient is 0
-abbrev pub is_reduced : Terms → Bool
-is_reduced ts = list_all (λ e. not (is_zero e.1)) ts
 
 pub ascending_cons : (e : ℕ × ℤ) (ts : Terms) → is_below e.0 ts ≡ true → is_ascending ts ≡ true → is_ascending (e ∷ ts) ≡ true
 ascending_cons e [] h k = refl
@@ -40,8 +43,8 @@ ascending-add_term x k ((y, l) ∷ us) h =
     (λ d. cond_both (x == y) (with_term x (k +ℤ l) us) ((y, l) ∷ add_term x k us) P
     (λ e. ascending-with_term x (k +ℤ l) us (ap (λ z. is_below z us) (eqb-true x y e) ∙ parts.0) parts.1)
     (λ e.
-      let above : nat_lt y x ≡ true = grind (arith, nat_tests) in
-      ascending_cons (y, l) (add_term x k us) (add_term-keeps_below y x k us above parts.0) (ascending-add_term x k us parts.1)))
+    let above : nat_lt y x ≡ true = grind (arith, nat_tests) in
+    ascending_cons (y, l) (add_term x k us) (add_term-keeps_below y x k us above parts.0) (ascending-add_term x k us parts.1)))
 
 ascending-add_terms : (ts us : Terms) → is_ascending us ≡ true → is_ascending (add_terms ts us) ≡ true
 ascending-add_terms [] us h = h
@@ -122,3 +125,67 @@ pub is_lin-without : (x : ℕ) (t : Lin) → is_lin t ≡ true → is_lin (witho
 is_lin-without x t h =
     let parts = and_parts (is_ascending t.coefs) (is_reduced t.coefs) h in
     and_from _ _ (ascending-filter (λ e. not (e.0 == x)) t.coefs parts.0) (reduced-filter (λ e. not (e.0 == x)) t.coefs parts.1)
+
+-- ---- replaced
+pub is_lin-replace_in : (x : ℕ) (a : ℤ) (t s : Lin) → is_lin t ≡ true → is_lin s ≡ true → is_lin (replace_in x a t s) ≡ true
+is_lin-replace_in x a t s h k = is_lin-add (scale (coef x s) t) (scale a (without x s)) (is_lin-scale (coef x s) t h) (is_lin-scale a (without x s) (is_lin-without x s k))
+
+-- a modulus at least 2, multiplied
+modulus_up : (a m : ℤ) → pos 1 ≤ℤ a → int_le (pos 2) m ≡ true → int_le (pos 2) (a *ℤ m) ≡ true
+modulus_up a m h k = le_in (pos 2) (a *ℤ m) (omega (arith, ints, mul_mono (pos 1) a m (omega (arith, ints, k)) h, one_mul m, k))
+
+pub is_fact-replaced : (x : ℕ) (a : ℤ) (t : Lin) (f : Fact) → pos 1 ≤ℤ a → is_lin t ≡ true → is_fact f ≡ true → is_fact (replaced x a t f) ≡ true
+is_fact-replaced x a t (AtMostZero s) h l f = is_lin-replace_in x a t s l f
+is_fact-replaced x a t (Zero s) h l f = is_lin-replace_in x a t s l f
+is_fact-replaced x a t (Divides m s) h l f =
+    let both = and_parts (int_le (pos 2) m) (is_lin s) f in
+    and_from _ _ (modulus_up a m h both.0) (is_lin-replace_in x a t s l both.1)
+is_fact-replaced x a t (NotDivides m s) h l f =
+    let both = and_parts (int_le (pos 2) m) (is_lin s) f in
+    and_from _ _ (modulus_up a m h both.0) (is_lin-replace_in x a t s l both.1)
+
+pub is_fact-replace : (x : ℕ) (a : ℤ) (t : Lin) (f : Fact) → pos 1 ≤ℤ a → is_lin t ≡ true → is_fact f ≡ true → is_fact (replace x a t f) ≡ true
+is_fact-replace x a t f h l k =
+    cond_both (occurs x (sum_of f)) (replaced x a t f) f (λ g. is_fact g ≡ true) (λ _. is_fact-replaced x a t f h l k) (λ _. k)
+
+-- ---- tight
+below-map : (x : ℕ) (g : ℤ) (ts : Terms) → is_below x ts ≡ true → is_below x (map (λ e. (e.0, int_div e.1 g)) ts) ≡ true
+below-map x g [] h = refl
+below-map x g ((y, k) ∷ ts) h = let both = and_parts (nat_lt x y) (is_below x ts) h in and_from _ _ both.0 (below-map x g ts both.1)
+
+ascending-map : (g : ℤ) (ts : Terms) → is_ascending ts ≡ true → is_ascending (map (λ e. (e.0, int_div e.1 g)) ts) ≡ true
+ascending-map g [] h = refl
+ascending-map g ((x, k) ∷ ts) h =
+    let parts = ascending_parts (x, k) ts h in
+    ascending_cons (x, int_div k g) (map (λ e. (e.0, int_div e.1 g)) ts) (below-map x g ts parts.0) (ascending-map g ts parts.1)
+
+-- what a divisor leaves of a number other than 0
+quotient_kept : (g k : ℤ) → divides g k ≡ true → not (is_zero k) ≡ true → not (is_zero (int_div k g)) ≡ true
+quotient_kept g k d n = at (is_zero (int_div k g)) refl
+  where
+    at : (b : Bool) → is_zero (int_div k g) ≡ b → not b ≡ true
+    at false e = refl
+    at true e =
+        let z : k ≡ pos 0 = exact g k d ∙ ap (λ q. q *ℤ g) (is_zero_out (int_div k g) e) ∙ zero-*ℤ g in
+        let t : is_zero k ≡ true = is_zero_in k z in
+        absurd (true≢false (sym n ∙ ap not t))
+
+reduced-map : (g : ℤ) (ts : Terms) → AllByRecursion (λ e. divides g e.1 ≡ true) ts → is_reduced ts ≡ true → is_reduced (map (λ e. (e.0, int_div e.1 g)) ts) ≡ true
+reduced-map g [] all h = refl
+reduced-map g ((x, k) ∷ ts) all h =
+    let both = and_parts (not (is_zero k)) (is_reduced ts) h in
+    and_from _ _ (quotient_kept g k all.0 both.0) (reduced-map g ts all.1 both.1)
+
+is_lin-tight_by : (t : Lin) → is_lin t ≡ true → is_lin (tight_by (pos (common_divisor t.coefs)) t) ≡ true
+is_lin-tight_by t h =
+    let parts = and_parts (is_ascending t.coefs) (is_reduced t.coefs) h in
+    let g : ℤ = pos (common_divisor t.coefs) in
+    let all = all_divided g t.coefs (divides_in g g (pos 1) (sym (one_mul g))) in
+    and_from _ _ (ascending-map g t.coefs parts.0) (reduced-map g t.coefs all parts.1)
+
+pub is_fact-tight : (f : Fact) → is_fact f ≡ true → is_fact (tight f) ≡ true
+is_fact-tight (AtMostZero t) h =
+    cond_both (common_divisor t.coefs == 0) t (tight_by (pos (common_divisor t.coefs)) t) (λ u. is_lin u ≡ true) (λ _. h) (λ _. is_lin-tight_by t h)
+is_fact-tight (Zero t) h = h
+is_fact-tight (Divides m t) h = h
+is_fact-tight (NotDivides m t) h = h

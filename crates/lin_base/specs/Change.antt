@@ -1,4 +1,4 @@
--- What is made of facts: Replace and Tight, in whole numbers without limit.
+-- What is made of facts: replacing and tightening, in whole numbers without limit.
 use Rattle.std.specs.Prelude.{ℕ, ℤ, pos, ◌*ℤ◌, int_div, ◌==◌, [], ◌∷◌, map, if◌then◌else◌}
 use Rattle.lin_base.specs.declared.sums.Lin.{Lin}
 use Rattle.lin_base.specs.declared.facts.Fact.{Fact}
@@ -11,11 +11,16 @@ use Rattle.lin_base.specs.Fact.{sum_of}
 abbrev pub replace_in : ℕ → ℤ → Lin → Lin → Lin
 replace_in x a t s = add (scale (coef x s) t) (scale a (without x s))
 
+-- the fact of the same kind about another sum, a modulus multiplied by a
+abbrev pub remade : ℤ → Lin → Fact → Fact
+remade a s (AtMostZero t) = AtMostZero s
+remade a s (Zero t) = Zero s
+remade a s (Divides m t) = Divides (a *ℤ m) s
+remade a s (NotDivides m t) = NotDivides (a *ℤ m) s
+
+-- the fact with t for a*x in its sum
 abbrev pub replaced : ℕ → ℤ → Lin → Fact → Fact
-replaced x a t (AtMostZero s) = AtMostZero (replace_in x a t s)
-replaced x a t (Zero s) = Zero (replace_in x a t s)
-replaced x a t (Divides m s) = Divides (a *ℤ m) (replace_in x a t s)
-replaced x a t (NotDivides m s) = NotDivides (a *ℤ m) (replace_in x a t s)
+replaced x a t f = remade a (replace_in x a t (sum_of f)) f
 
 -- t for a*x: a fact without x stays
 abbrev pub replace : ℕ → ℤ → Lin → Fact → Fact
@@ -30,6 +35,7 @@ common_divisor ((x, k) ∷ ts) = gcd k (pos (common_divisor ts))
 abbrev pub tight_by : ℤ → Lin → Lin
 tight_by g t = record { coefs = map (λ e. (e.0, int_div e.1 g)) t.coefs; constant = div_ceil t.constant g }
 
+-- the fact with its terms divided by their common divisor; one without unknown and any other fact stays
 abbrev pub tight : Fact → Fact
 tight (AtMostZero t) = AtMostZero (if common_divisor t.coefs == 0 then t else tight_by (pos (common_divisor t.coefs)) t)
 tight (Zero t) = Zero t

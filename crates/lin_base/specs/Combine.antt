@@ -13,6 +13,7 @@ add_scaled so_far k t = add so_far (scale k t)
 abbrev pub add_scaled_steps : Lin → ℤ → Lin → List Wide
 add_scaled_steps so_far k t = scale_steps k t ++ add_steps so_far (scale k t)
 
+-- the sum so far and k times each
 abbrev pub combined_onto : Lin → List (Lin × ℤ) → Lin
 combined_onto so_far [] = so_far
 combined_onto so_far ((t, k) ∷ rest) = combined_onto (add_scaled so_far k t) rest
@@ -21,9 +22,11 @@ combined_onto so_far ((t, k) ∷ rest) = combined_onto (add_scaled so_far k t) r
 abbrev pub combined : List (Lin × ℤ) → Lin
 combined parts = combined_onto (number (pos 0)) parts
 
+-- one part after the other
 abbrev pub combined_onto_steps : Lin → List (Lin × ℤ) → List Wide
 combined_onto_steps so_far [] = []
 combined_onto_steps so_far ((t, k) ∷ rest) = add_scaled_steps so_far k t ++ combined_onto_steps (add_scaled so_far k t) rest
 
+-- of all parts, beginning with 0
 abbrev pub combined_steps : List (Lin × ℤ) → List Wide
 combined_steps parts = combined_onto_steps (number (pos 0)) parts

@@ -13,16 +13,20 @@ use Rattle.lin_base.specs.Whole.{is_in_range, gcd, div_floor}
 use Rattle.lin_base.specs.Sum.{Terms, Valuation, coef, occurs, without, scale, number}
 use Rattle.lin_base.specs.Fact.{sum_of}
 
+-- the step l + r
 abbrev pub adds : ℤ → ℤ → Wide
 adds l r = record { op = Add; left = l; right = r }
 
+-- the step l * r
 abbrev pub multiplies : ℤ → ℤ → Wide
 multiplies l r = record { op = Mul; left = l; right = r }
 
+-- the result of an operation
 abbrev pub apply_op : Op → ℤ → ℤ → ℤ
 apply_op Add l r = l +ℤ r
 apply_op Mul l r = l *ℤ r
 
+-- the result of a step
 abbrev pub result_of : Wide → ℤ
 result_of s = apply_op s.op s.left s.right
 
@@ -30,9 +34,11 @@ result_of s = apply_op s.op s.left s.right
 abbrev pub first_wide : List Wide → Option Wide
 first_wide = find (λ s. not (is_in_range (result_of s)))
 
+-- each step stays in the range
 abbrev pub is_narrow : List Wide → Bool
 is_narrow steps = is_none (first_wide steps)
 
+-- the value where no step leaves the range
 abbrev pub unless : {A : Type 0} → Option Wide → A → Result A Wide
 unless None a = Ok a
 unless (Some w) a = Err w
@@ -69,9 +75,11 @@ abbrev pub scale_terms_steps : ℤ → Terms → List Wide
 scale_terms_steps k [] = []
 scale_terms_steps k ((x, l) ∷ ts) = multiplies k l ∷ scale_terms_steps k ts
 
+-- the coefficients, then the constant
 abbrev pub scale_steps : ℤ → Lin → List Wide
 scale_steps k t = scale_terms_steps k t.coefs ++ multiplies k t.constant ∷ []
 
+-- a sum changes its sign by a product with -1
 abbrev pub negated_steps : Lin → List Wide
 negated_steps t = scale_steps (negsuc 0) t
 
@@ -91,6 +99,7 @@ modulus_steps a (Zero s) = []
 modulus_steps a (Divides m s) = multiplies a m ∷ []
 modulus_steps a (NotDivides m s) = multiplies a m ∷ []
 
+-- none for a fact without x
 abbrev pub replace_steps : ℕ → ℤ → Lin → Fact → List Wide
 replace_steps x a t f = if occurs x (sum_of f) then replace_in_steps x a t (sum_of f) ++ modulus_steps a f else []
 
@@ -108,5 +117,6 @@ abbrev pub value_steps_from : Valuation → ℤ → Terms → ℤ → List Wide
 value_steps_from v so_far [] c = adds so_far c ∷ []
 value_steps_from v so_far ((x, k) ∷ ts) c = multiplies k (v x) ∷ adds so_far (k *ℤ v x) ∷ value_steps_from v (so_far +ℤ k *ℤ v x) ts c
 
+-- the sum so far starts with 0
 abbrev pub value_steps : Valuation → Lin → List Wide
 value_steps v t = value_steps_from v (pos 0) t.coefs t.constant

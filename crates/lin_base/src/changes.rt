@@ -1,12 +1,13 @@
 //! What is formed of sums.
 
-ghost use Rattle.std.specs.Prelude.{◌≡◌, [], ◌++◌, OnOk, IsTrue};
+ghost use Rattle.std.specs.Prelude.{◌≡◌, [], ◌++◌, OnOk, IfOk, IsTrue};
 ghost use Rattle.lin_base.specs.Fact.{is_ascending, is_lin};
-ghost use Rattle.lin_base.specs.Steps.{Forms, add_terms_steps, add_steps, scale_terms_steps, scale_steps};
+ghost use Rattle.lin_base.specs.Steps.{Forms, add_terms_steps, add_steps, scale_terms_steps, scale_steps, negated_steps, add_number_steps};
+ghost use Rattle.lin_base.specs.Combine.{add_scaled, add_scaled_steps};
 ghost use Rattle.lin_base.specs.Sum as spec;
 
 use crate::checked::{checked_add, checked_mul};
-use crate::sums::Lin;
+use crate::sums::{Lin, number};
 use crate::wides::ArithmeticError;
 use sqlite_items::Items;
 use std::alloc::{AllocError, Global};
@@ -57,7 +58,8 @@ fn add_terms(
 pub fn add(alloc: Global, a: &Lin, b: &Lin) -> Result<Lin, ArithmeticError>
     requires left { IsTrue (is_lin a.now) }
     requires right { IsTrue (is_lin b.now) }
-    ensures { Forms result (add_steps a.now b.now) (spec.add a.now b.now) }
+    ensures sum { Forms result (add_steps a.now b.now) (spec.add a.now b.now) }
+    ensures well_formed { IfOk result (λ r. IsTrue (is_lin r)) }
 {
     Ok(Lin {
         coefs: add_terms(alloc, a.coefs.as_slice(), b.coefs.as_slice())?,
@@ -84,10 +86,41 @@ fn scale_terms(
 /// `k * a`. Wide with the first product, by ascending unknown and the constant last, that leaves the range.
 #[tactic(auto, using(crate::proofs::Forming::forming))]
 pub fn scale(alloc: Global, k: i128, a: &Lin) -> Result<Lin, ArithmeticError>
-    ensures { Forms result (scale_steps k a.now) (spec.scale k a.now) }
+    ensures product { Forms result (scale_steps k a.now) (spec.scale k a.now) }
+    ensures well_formed { IsTrue (is_lin a.now) → IfOk result (λ r. IsTrue (is_lin r)) }
 {
     Ok(Lin {
         coefs: scale_terms(alloc, k, a.coefs.as_slice())?,
         constant: checked_mul(k, a.constant)?,
     })
+}
+
+/// `-a`, the product with -1.
+#[tactic(auto, using(crate::proofs::Forming::forming))]
+pub fn negate(alloc: Global, a: &Lin) -> Result<Lin, ArithmeticError>
+    ensures product { Forms result (negated_steps a.now) (spec.negated a.now) }
+    ensures well_formed { IsTrue (is_lin a.now) → IfOk result (λ r. IsTrue (is_lin r)) }
+{
+    scale(alloc, -1, a)
+}
+
+/// `a + c`. Wide where the constants' sum leaves the range.
+#[tactic(auto, using(crate::proofs::Forming::forming))]
+pub fn add_number(alloc: Global, a: &Lin, c: i128) -> Result<Lin, ArithmeticError>
+    requires { IsTrue (is_lin a.now) }
+    ensures sum { Forms result (add_number_steps a.now c) (spec.add_number a.now c) }
+    ensures well_formed { IfOk result (λ r. IsTrue (is_lin r)) }
+{
+    add(alloc, a, &number(alloc, c))
+}
+
+/// `so_far + k * t`, the step by which a combination of sums is formed: first the products, then the sums.
+#[tactic(auto, using(crate::proofs::Forming::forming))]
+pub fn add_scaled(alloc: Global, so_far: &Lin, k: i128, t: &Lin) -> Result<Lin, ArithmeticError>
+    requires so_far { IsTrue (is_lin so_far.now) }
+    requires term { IsTrue (is_lin t.now) }
+    ensures sum { Forms result (add_scaled_steps so_far.now k t.now) (add_scaled so_far.now k t.now) }
+    ensures well_formed { IfOk result (λ r. IsTrue (is_lin r)) }
+{
+    add(alloc, so_far, &scale(alloc, k, t)?)
 }

@@ -1,6 +1,4 @@
-use Rattle.std.proofs.Common.{◌≡◌, ◌∙◌, ap, sym, refl, arith, pos, ℕ, ◌<◌, ◌+◌, ◌-◌, ◌++◌, ◌∷◌, [], length, get_or, take, drop, append_assoc, inl, inr, ◌⊎◌}
-use Rattle.lin_base.specs.Sum.{Terms, add_terms}
-use Rattle.lin_base.specs.Steps.{add_terms_steps}
+use Rattle.std.proofs.Common.{arith, ◌<◌, length, append_assoc, inl, inr, ◌⊎◌}
 use Rattle.lin_base.proofs.Forming.{forming}
 use Rattle.lin_base.proofs.Scaling.{with_term-append}
 use Rattle.lin_base.proofs.Merging.{first_and_rest, left_rest, right_rest, merge-lower, merge-higher, merge-same, merge-end}

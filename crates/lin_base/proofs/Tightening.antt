@@ -23,7 +23,7 @@ divides_trans a b c p q =
     let e = divides_out b c q in
     divides_in a c (e.0 *ℤ d.0) (e.1 ∙ ap (λ z. e.0 *ℤ z) d.1 ∙ sym (mul_assoc e.0 d.0 a))
 
-all_divided : (g : ℤ) (ts : Terms) → divides g (pos (common_divisor ts)) ≡ true → AllByRecursion (λ e. divides g e.1 ≡ true) ts
+pub all_divided : (g : ℤ) (ts : Terms) → divides g (pos (common_divisor ts)) ≡ true → AllByRecursion (λ e. divides g e.1 ≡ true) ts
 all_divided g [] h = tt
 all_divided g ((x, k) ∷ ts) h =
     let i = gcd-IsGcd k (pos (common_divisor ts)) in
@@ -32,7 +32,7 @@ all_divided g ((x, k) ∷ ts) h =
     let rest : divides (pos c) (pos (common_divisor ts)) ≡ true = eq-eqb _ _ (mod-eq-zero_of_dvd c i.1) in
     (divides_trans g (pos c) k h first, all_divided g ts (divides_trans g (pos c) (pos (common_divisor ts)) h rest))
 
-exact : (g k : ℤ) → divides g k ≡ true → k ≡ int_div k g *ℤ g
+pub exact : (g k : ℤ) → divides g k ≡ true → k ≡ int_div k g *ℤ g
 exact g k e =
     let r : unsigned_abs k % unsigned_abs g ≡ 0 = eqb-true _ 0 e in
     omega (arith, ints, quot-rem k g, rem_zero g k r)
