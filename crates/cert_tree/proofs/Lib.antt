@@ -1,0 +1,5 @@
+pub mod Clash
+pub mod Members
+pub mod Nodes
+pub mod Truth
+pub mod Sound

@@ -1,0 +1,4 @@
+pub mod Counting
+pub mod Children
+pub mod Stands
+pub mod Laws
