@@ -1,9 +1,9 @@
--- Units on lists: what `unit_at` answers is a word and a sign with white space in front of each, and there is no other such cut.
+-- Units on lists: what `word_before` answers is a word and a sign with white space in front of each, and there is no other such cut.
 use Rattle.std.proofs.Common.{◌≡◌, ℕ, ◌<◌, Bool, true, false, cond, ◌||◌, ◌==◌, List, [], ◌∷◌, ◌++◌, length, Option, Some, None, refl, sym, ap, subst, ◌∙◌, append-nil, inl, inr, ◌⊎◌, arith}
 use Rattle.std.proofs.lemmas.Bool.{and_parts, and_from, or_cases, false≢true, eqb-true, eq-eqb}
 use Rattle.std.specs.List.{list_all}
 use Rattle.beagle_top.specs.Bytes.{is_blank, is_run_byte}
-use Rattle.beagle_top.specs.Reading.{run_of, rest_after, closed_by, unit_at}
+use Rattle.beagle_top.specs.Reading.{run_of, rest_after, closed_by, word_before}
 
 abbrev pub AllPass : (ℕ → Bool) → List ℕ → Type 0
 AllPass p xs = list_all p xs ≡ true
@@ -103,9 +103,9 @@ pub record IsCut (sign : ℕ) (bytes word rest : List ℕ) : Type 0 where
   pub run : AllPass is_run_byte word
   pub whole : bytes ≡ before ++ (word ++ (between ++ (sign ∷ rest)))
 
-pub unit_found : (sign : ℕ) (bytes w rest : List ℕ) → unit_at sign bytes ≡ Some (w, rest) → IsCut sign bytes w rest
-unfolding unit_at
-unit_found sign bytes w rest h =
+pub cut_found : (sign : ℕ) (bytes w rest : List ℕ) → word_before sign bytes ≡ Some (w, rest) → IsCut sign bytes w rest
+unfolding word_before
+cut_found sign bytes w rest h =
     let text = rest_after is_blank bytes in
     let word = run_of is_run_byte text in
     let behind = rest_after is_run_byte text in
@@ -138,8 +138,8 @@ closed_here : (sign : ℕ) (word rest : List ℕ) → closed_by sign word (sign 
 closed_here sign word rest = ap (λ t. cond t (Some (word, rest)) None) (eq-eqb sign sign refl)
 
 pub word_read : (sign : ℕ) → IsSign sign → (before word between rest : List ℕ) → AllPass is_blank before → AllPass is_run_byte word → 0 < length word
-    → AllPass is_blank between → unit_at sign (before ++ (word ++ (between ++ (sign ∷ rest)))) ≡ Some (word, rest)
-unfolding unit_at
+    → AllPass is_blank between → word_before sign (before ++ (word ++ (between ++ (sign ∷ rest)))) ≡ Some (word, rest)
+unfolding word_before
 word_read sign s before word between rest b r k d =
     let tail = between ++ (sign ∷ rest) in
     let skipped = rest_of_passing is_blank before (word ++ tail) b ∙ rest_of_stop is_blank (word ++ tail) (word_stops word tail r k) in
@@ -152,8 +152,8 @@ word_read sign s before word between rest b r k d =
     ∙ ap (closed_by sign word) (skip_between sign s between rest d)
     ∙ closed_here sign word rest
 
-pub sign_read : (sign : ℕ) → IsSign sign → (before rest : List ℕ) → AllPass is_blank before → unit_at sign (before ++ (sign ∷ rest)) ≡ Some ([], rest)
-unfolding unit_at
+pub sign_read : (sign : ℕ) → IsSign sign → (before rest : List ℕ) → AllPass is_blank before → word_before sign (before ++ (sign ∷ rest)) ≡ Some ([], rest)
+unfolding word_before
 sign_read sign s before rest b =
     let skipped = skip_between sign s before rest b in
     let run = run_of_stop is_run_byte (sign ∷ rest) s.no_run in

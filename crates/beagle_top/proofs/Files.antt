@@ -5,24 +5,24 @@ use Rattle.std.specs.List.{list_all}
 use Rattle.beagle_top.specs.declared.comparisons.Comparison.{Comparison}
 use Rattle.beagle_top.specs.Bytes.{is_blank}
 use Rattle.beagle_top.specs.FirstForm.{BeginsWith, IsFile, is_false, first_false_from, FirstFalse, NoneFalse}
-use Rattle.beagle_top.specs.Reading.{statement_at, first_or}
+use Rattle.beagle_top.specs.Reading.{statement_at, found_or_first}
 use Rattle.beagle_top.proofs.Statements.{statement_read, statement_found, statement_shorter, blank_no_statement, chosen}
 
 -- the files that the whole text may be are those that the rest may be, with the comparisons so far in front
 pub record Reads (text rest : List ℕ) (found : Option (ℕ × Comparison)) (n : ℕ) : Type 0 where
-  pub forth : (cs : List Comparison) → IsFile cs text → (ds : List Comparison) × IsFile ds rest × (first_false_from 0 cs ≡ first_or found n ds)
-  pub back : (ds : List Comparison) → IsFile ds rest → (cs : List Comparison) × IsFile cs text × (first_false_from 0 cs ≡ first_or found n ds)
+  pub forth : (cs : List Comparison) → IsFile cs text → (ds : List Comparison) × IsFile ds rest × (first_false_from 0 cs ≡ found_or_first found n ds)
+  pub back : (ds : List Comparison) → IsFile ds rest → (cs : List Comparison) × IsFile cs text × (first_false_from 0 cs ≡ found_or_first found n ds)
   pub bound : n + length rest ≤ length text
 
 pub starts : (text : List ℕ) → Reads text text None 0
 starts text = record { forth = λ cs h. (cs, h, refl); back = λ ds h. (ds, h, refl); bound = omega arith }
 
 -- one comparison more
-first_or_more : (found : Option (ℕ × Comparison)) (n : ℕ) (c : Comparison) (ds : List Comparison) → first_or found n (c ∷ ds) ≡ first_or (first_or found n (c ∷ [])) (n + 1) ds
-first_or_more (Some f) n c ds = refl
-first_or_more None n c ds = by (is_false c)
+found_or_first_more : (found : Option (ℕ × Comparison)) (n : ℕ) (c : Comparison) (ds : List Comparison) → found_or_first found n (c ∷ ds) ≡ found_or_first (found_or_first found n (c ∷ [])) (n + 1) ds
+found_or_first_more (Some f) n c ds = refl
+found_or_first_more None n c ds = by (is_false c)
   where
-    by : (t : Bool) → cond t (Some (n, c)) (first_false_from (suc n) ds) ≡ first_or (cond t (Some (n, c)) None) (n + 1) ds
+    by : (t : Bool) → cond t (Some (n, c)) (first_false_from (suc n) ds) ≡ found_or_first (cond t (Some (n, c)) None) (n + 1) ds
     by true = refl
     by false = ap (λ k. first_false_from k ds) (sym (add-one n))
 
@@ -40,15 +40,15 @@ file_behind c rest behind h (d ∷ ds) (more, begins, file) =
     (ds, ap (λ x. x ∷ ds) e.0, subst (IsFile ds) e.1 file)
 
 pub goes_on : (text rest behind : List ℕ) (found : Option (ℕ × Comparison)) (n : ℕ) (c : Comparison) → Reads text rest found n → statement_at rest ≡ Some (c, behind)
-    → Reads text behind (first_or found n (c ∷ [])) (n + 1)
+    → Reads text behind (found_or_first found n (c ∷ [])) (n + 1)
 goes_on text rest behind found n c r h = record {
   forth = λ cs file.
       let at = r.forth cs file in
       let e = file_behind c rest behind h at.0 at.1 in
-      (e.0, e.2, at.2 ∙ ap (first_or found n) e.1 ∙ first_or_more found n c e.0);
+      (e.0, e.2, at.2 ∙ ap (found_or_first found n) e.1 ∙ found_or_first_more found n c e.0);
   back = λ ds file.
       let at = r.back (c ∷ ds) (behind, statement_found c rest behind h, file) in
-      (at.0, at.1, at.2 ∙ first_or_more found n c ds);
+      (at.0, at.1, at.2 ∙ found_or_first_more found n c ds);
   bound = omega (arith, r.bound, statement_shorter c rest behind (statement_found c rest behind h));
 }
 
@@ -66,9 +66,9 @@ nothing_left : (rest : List ℕ) → list_all is_blank rest ≡ true → (ds : L
 nothing_left rest b [] k = refl
 nothing_left rest b (d ∷ ds) (more, begins, k) = absurd (blank_no_statement d rest more b begins)
 
-first_or_end : (found : Option (ℕ × Comparison)) (n : ℕ) → first_or found n [] ≡ found
-first_or_end (Some f) n = refl
-first_or_end None n = refl
+found_or_first_end : (found : Option (ℕ × Comparison)) (n : ℕ) → found_or_first found n [] ≡ found
+found_or_first_end (Some f) n = refl
+found_or_first_end None n = refl
 
 pub ends_found : (text rest : List ℕ) (found : Option (ℕ × Comparison)) (n : ℕ) → Reads text rest found n → list_all is_blank rest ≡ true
     → IfSome found (λ f. FirstFalse text f.0 f.1)
@@ -79,4 +79,4 @@ pub ends_none : (text rest : List ℕ) (found : Option (ℕ × Comparison)) (n :
 ends_none text rest (Some f) n r b = tt
 ends_none text rest None n r b = λ cs file.
     let at = r.forth cs file in
-    at.2 ∙ ap (first_or None n) (nothing_left rest b at.0 at.1)
+    at.2 ∙ ap (found_or_first None n) (nothing_left rest b at.0 at.1)

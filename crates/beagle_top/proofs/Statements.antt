@@ -12,8 +12,8 @@ use Rattle.beagle_top.specs.declared.comparisons.Predicate.{Predicate}
 use Rattle.beagle_top.specs.declared.comparisons.Predicate.TheVariants as predicate
 use Rattle.beagle_top.specs.Bytes.{is_blank, is_word_byte, is_run_byte, is_lower_word, are_digits, is_numeral, numeral_value}
 use Rattle.beagle_top.specs.FirstForm.{Spread, Statement, comparison_of, predicate_text, meaning, BeginsWith}
-use Rattle.beagle_top.specs.Reading.{unit_at, after_word, after_name, predicate_of, predicate_at, numeral_at, comparison_at, statement_at}
-use Rattle.beagle_top.proofs.Cuts.{AllPass, IsSign, unit_found, word_read, sign_read}
+use Rattle.beagle_top.specs.Reading.{word_before, after_word, after_name, predicate_of, predicate_at, numeral_at, comparison_at, statement_at}
+use Rattle.beagle_top.proofs.Cuts.{AllPass, IsSign, cut_found, word_read, sign_read}
 
 -- ---- steps that may fail
 pub bound_to : {A B : Type 0} (f : A → Option B) (o : Option A) (a : A) (r : Option B) → o ≡ Some a → f a ≡ r → option_and_then f o ≡ r
@@ -84,24 +84,24 @@ predicate_runs predicate.GreaterEq = (refl, lit< tt)
 -- ---- tokens in front
 -- the word and the sign in front are read, and the tokens behind follow: what holds for all that is read holds
 pub spread_word : {G : Type 0} (sign : ℕ) → IsSign sign → (word : List ℕ) → AllPass is_run_byte word × (0 < length word) → (tokens : List (List ℕ)) (bytes rest : List ℕ)
-    → Spread (word ∷ (sign ∷ []) ∷ tokens) bytes rest → ((more : List ℕ) → unit_at sign bytes ≡ Some (word, more) → Spread tokens more rest → G) → G
+    → Spread (word ∷ (sign ∷ []) ∷ tokens) bytes rest → ((more : List ℕ) → word_before sign bytes ≡ Some (word, more) → Spread tokens more rest → G) → G
 spread_word sign s word run tokens bytes rest (before, tail, b, e, (between, more, d, f, then)) go_on =
-    go_on more (ap (unit_at sign) (e ∙ ap (λ t. before ++ (word ++ t)) f) ∙ word_read sign s before word between more b run.0 run.1 d) then
+    go_on more (ap (word_before sign) (e ∙ ap (λ t. before ++ (word ++ t)) f) ∙ word_read sign s before word between more b run.0 run.1 d) then
 
 pub spread_sign : {G : Type 0} (sign : ℕ) → IsSign sign → (tokens : List (List ℕ)) (bytes rest : List ℕ) → Spread ((sign ∷ []) ∷ tokens) bytes rest
-    → ((more : List ℕ) → unit_at sign bytes ≡ Some ([], more) → Spread tokens more rest → G) → G
-spread_sign sign s tokens bytes rest (before, more, b, e, then) go_on = go_on more (ap (unit_at sign) e ∙ sign_read sign s before more b) then
+    → ((more : List ℕ) → word_before sign bytes ≡ Some ([], more) → Spread tokens more rest → G) → G
+spread_sign sign s tokens bytes rest (before, more, b, e, then) go_on = go_on more (ap (word_before sign) e ∙ sign_read sign s before more b) then
 
-pub word_spread : (sign : ℕ) (word bytes more : List ℕ) (tokens : List (List ℕ)) (rest : List ℕ) → unit_at sign bytes ≡ Some (word, more) → Spread tokens more rest
+pub word_spread : (sign : ℕ) (word bytes more : List ℕ) (tokens : List (List ℕ)) (rest : List ℕ) → word_before sign bytes ≡ Some (word, more) → Spread tokens more rest
     → Spread (word ∷ (sign ∷ []) ∷ tokens) bytes rest
 word_spread sign word bytes more tokens rest h then =
-    let cut = unit_found sign bytes word more h in
+    let cut = cut_found sign bytes word more h in
     (cut.before, cut.between ++ (sign ∷ more), cut.before_blank, cut.whole, (cut.between, more, cut.between_blank, refl, then))
 
-pub sign_spread : (sign : ℕ) (bytes more : List ℕ) (tokens : List (List ℕ)) (rest : List ℕ) → unit_at sign bytes ≡ Some ([], more) → Spread tokens more rest
+pub sign_spread : (sign : ℕ) (bytes more : List ℕ) (tokens : List (List ℕ)) (rest : List ℕ) → word_before sign bytes ≡ Some ([], more) → Spread tokens more rest
     → Spread ((sign ∷ []) ∷ tokens) bytes rest
 sign_spread sign bytes more tokens rest h then =
-    let cut = unit_found sign bytes [] more h in (
+    let cut = cut_found sign bytes [] more h in (
       cut.before ++ cut.between,
       more,
       list_all-append is_blank cut.before cut.between ∙ and_from _ _ cut.before_blank cut.between_blank,
@@ -144,12 +144,12 @@ abbrev from_name : Statement → List (List ℕ)
 from_name s = s.name ∷ codes "," ∷ from_role s
 
 -- ---- a statement in front is read
-after_word_read : (sign : ℕ) (word bytes more : List ℕ) → unit_at sign bytes ≡ Some (word, more) → after_word word sign bytes ≡ Some more
+after_word_read : (sign : ℕ) (word bytes more : List ℕ) → word_before sign bytes ≡ Some (word, more) → after_word word sign bytes ≡ Some more
 unfolding after_word
 after_word_read sign word bytes more h =
     bound_to _ _ (word, more) (Some more) h (ap (λ t. cond {A = Option (List ℕ)} t (Some more) None) (equal_bytes word))
 
-after_name_read : (word bytes more : List ℕ) → unit_at 44 bytes ≡ Some (word, more) → is_lower_word word ≡ true → after_name bytes ≡ Some more
+after_name_read : (word bytes more : List ℕ) → word_before 44 bytes ≡ Some (word, more) → is_lower_word word ≡ true → after_name bytes ≡ Some more
 unfolding after_name
 after_name_read word bytes more h k =
     bound_to _ _ (word, more) (Some more) h (ap (λ t. cond {A = Option (List ℕ)} t (Some more) None) k)
@@ -160,19 +160,19 @@ predicate_of_text predicate.LessEq = refl
 predicate_of_text predicate.Greater = refl
 predicate_of_text predicate.GreaterEq = refl
 
-predicate_read : (p : Predicate) (bytes more : List ℕ) → unit_at 40 bytes ≡ Some (predicate_text p, more) → predicate_at bytes ≡ Some (p, more)
+predicate_read : (p : Predicate) (bytes more : List ℕ) → word_before 40 bytes ≡ Some (predicate_text p, more) → predicate_at bytes ≡ Some (p, more)
 unfolding predicate_at
 predicate_read p bytes more h =
     bound_to _ _ (predicate_text p, more) (Some (p, more)) h (bound_to _ _ p (Some (p, more)) (predicate_of_text p) refl)
 
-numeral_read : (sign : ℕ) (word bytes more : List ℕ) → unit_at sign bytes ≡ Some (word, more) → is_numeral word ≡ true
+numeral_read : (sign : ℕ) (word bytes more : List ℕ) → word_before sign bytes ≡ Some (word, more) → is_numeral word ≡ true
     → numeral_at sign bytes ≡ Some (numeral_value word, more)
 unfolding numeral_at
 numeral_read sign word bytes more h k =
     bound_to _ _ (word, more) (Some (numeral_value word, more)) h
     (ap (λ t. cond {A = Option (ℤ × List ℕ)} t (Some (numeral_value word, more)) None) k)
 
--- what the arguments' units give
+-- what the predicate and the arguments give
 comparison_read : (s : Statement) (bytes p l r : List ℕ) → predicate_at bytes ≡ Some (s.predicate, p) → numeral_at 44 p ≡ Some (numeral_value s.left, l)
     → numeral_at 41 l ≡ Some (numeral_value s.right, r) → comparison_at bytes ≡ Some (comparison_of s, r)
 unfolding comparison_at
@@ -216,22 +216,22 @@ pair_first a c b d h = ap (λ p. p.0) h
 pair_second : {A B : Type 0} (a c : A) (b d : B) → ◌≡◌ {A = A × B} (a, b) (c, d) → b ≡ d
 pair_second a c b d h = ap (λ p. p.1) h
 
-after_word_found : (sign : ℕ) (word bytes more : List ℕ) → after_word word sign bytes ≡ Some more → unit_at sign bytes ≡ Some (word, more)
+after_word_found : (sign : ℕ) (word bytes more : List ℕ) → after_word word sign bytes ≡ Some more → word_before sign bytes ≡ Some (word, more)
 unfolding after_word
 after_word_found sign word bytes more h =
-    let p = passed _ (unit_at sign bytes) more h in
+    let p = passed _ (word_before sign bytes) more h in
     let e = chosen (bytes_eq p.value.0 word) p.value.1 more p.then in
     p.is ∙ ap (λ w. Some (w, p.value.1)) (same_bytes p.value.0 word e.0) ∙ ap (λ m. Some (word, m)) e.1
 
 record NameRead (bytes more : List ℕ) : Type 0 where
   name : List ℕ
   lower : is_lower_word name ≡ true
-  is : unit_at 44 bytes ≡ Some (name, more)
+  is : word_before 44 bytes ≡ Some (name, more)
 
 after_name_found : (bytes more : List ℕ) → after_name bytes ≡ Some more → NameRead bytes more
 unfolding after_name
 after_name_found bytes more h =
-    let p = passed _ (unit_at 44 bytes) more h in
+    let p = passed _ (word_before 44 bytes) more h in
     let e = chosen (is_lower_word p.value.0) p.value.1 more p.then in
     record { name = p.value.0; lower = e.0; is = p.is ∙ ap (λ m. Some (p.value.0, m)) e.1 }
 
@@ -259,10 +259,10 @@ predicate_text_of word p h = first (bytes_eq word (codes "$less")) refl h
     first true e k = same_bytes word _ e ∙ ap predicate_text (chosen true predicate.Less p k).1
     first false e k = second (bytes_eq word (codes "$lesseq")) refl k
 
-predicate_found : (p : Predicate) (bytes more : List ℕ) → predicate_at bytes ≡ Some (p, more) → unit_at 40 bytes ≡ Some (predicate_text p, more)
+predicate_found : (p : Predicate) (bytes more : List ℕ) → predicate_at bytes ≡ Some (p, more) → word_before 40 bytes ≡ Some (predicate_text p, more)
 unfolding predicate_at
 predicate_found p bytes more h =
-    let u = passed _ (unit_at 40 bytes) (p, more) h in
+    let u = passed _ (word_before 40 bytes) (p, more) h in
     let q = passed (λ (x : Predicate). Some (x, u.value.1)) (predicate_of u.value.0) (p, more) u.then in
     let same : ◌≡◌ {A = Predicate × List ℕ} (q.value, u.value.1) (p, more) = (chosen true (q.value, u.value.1) (p, more) q.then).1 in
     u.is ∙ ap (λ w. Some (w, u.value.1)) (predicate_text_of u.value.0 q.value q.is)
@@ -272,12 +272,12 @@ record NumeralRead (sign : ℕ) (z : ℤ) (bytes more : List ℕ) : Type 0 where
   word : List ℕ
   numeral : is_numeral word ≡ true
   value : numeral_value word ≡ z
-  is : unit_at sign bytes ≡ Some (word, more)
+  is : word_before sign bytes ≡ Some (word, more)
 
 numeral_found : (sign : ℕ) (z : ℤ) (bytes more : List ℕ) → numeral_at sign bytes ≡ Some (z, more) → NumeralRead sign z bytes more
 unfolding numeral_at
 numeral_found sign z bytes more h =
-    let u = passed _ (unit_at sign bytes) (z, more) h in
+    let u = passed _ (word_before sign bytes) (z, more) h in
     let e = chosen (is_numeral u.value.0) (numeral_value u.value.0, u.value.1) (z, more) u.then in
     record {
       word = u.value.0;
@@ -357,7 +357,7 @@ whole_found c bytes rest h =
 -- the bytes with these parts begin with the statement
 made : (c : Comparison) (bytes a b d r e rest : List ℕ) (name : NameRead a b) (k : ComparisonRead c d r)
     (s : NumeralRead 44 k.s k.after_p k.after_s) (t : NumeralRead 41 k.t k.after_s r)
-    → unit_at 40 bytes ≡ Some (codes "tff", a) → unit_at 44 b ≡ Some (codes "axiom", d) → unit_at 41 r ≡ Some ([], e) → unit_at 46 e ≡ Some ([], rest)
+    → word_before 40 bytes ≡ Some (codes "tff", a) → word_before 44 b ≡ Some (codes "axiom", d) → word_before 41 r ≡ Some ([], e) → word_before 46 e ≡ Some ([], rest)
     → BeginsWith c bytes rest
 made c bytes a b d r e rest name k s t ha hd he hf =
     let statement : Statement = record { name = name.name; predicate = k.p; left = s.word; right = t.word } in

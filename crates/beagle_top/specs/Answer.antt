@@ -2,7 +2,6 @@
 use Rattle.std.specs.Prelude.{◌≡◌, ℕ, ◌<◌, ◌≤◌, List, [], ◌∷◌, length, take, Contains, Option, ◌⊎◌}
 use Rattle.std.specs.Io.KnownBytes.{Appends}
 use Rattle.beagle_top.specs.declared.comparisons.Comparison.{Comparison}
-use Rattle.beagle_top.specs.declared.top.TheConstants.{INPUT_LIMIT}
 use Rattle.lin_base.specs.Fact.{Impossible}
 use Rattle.cert_tree.specs.Stands.{Stands}
 use Rattle.beagle_top.specs.Pools.{pool_of, closing}
@@ -20,6 +19,10 @@ pub record Refutes (bytes : List ℕ) (status : ℕ) (text : List ℕ) : Type 0 
   pub status_is : status ≡ 0
   pub text_is : text ≡ refutation axiom_number comparison
 
+-- the most bytes that a problem may have
+abbrev pub input_limit : ℕ
+input_limit = 16777216
+
 -- the bytes are refused with this line
 pub record Refuses (line : List ℕ) (status : ℕ) (text : List ℕ) : Type 0 where
   pub status_is : status ≡ 3
@@ -32,7 +35,7 @@ IsAnswer bytes status text = Refutes bytes status text ⊎ (NoneFalse bytes × R
 -- what is due for the bytes of a source
 abbrev pub IsDueFor : List ℕ → ℕ → List ℕ → Type 0
 IsDueFor bytes status text =
-    ((INPUT_LIMIT < length bytes) × Refuses too_long status text) ⊎ ((length bytes ≤ INPUT_LIMIT) × IsAnswer bytes status text)
+    ((input_limit < length bytes) × Refuses too_long status text) ⊎ ((length bytes ≤ input_limit) × IsAnswer bytes status text)
 
 -- ---- how a run ends
 -- the sink has taken all of the text, and the status is the due one

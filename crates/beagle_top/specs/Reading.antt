@@ -1,4 +1,4 @@
--- Reading by a cursor: what the parser's functions answer, on lists.
+-- Reading by a cursor: what the parser's private functions answer, on lists. No public clause rests on this file.
 use Rattle.std.specs.Prelude.{ℕ, Bool, ◌==◌, List, [], ◌∷◌, codes, ℤ, Option, Some, None, option_and_then, if◌then◌else◌}
 use Rattle.std.specs.Str.{bytes_eq}
 use Rattle.beagle_top.specs.declared.comparisons.Comparison.{Comparison}
@@ -27,20 +27,20 @@ closed_by sign word [] = None
 closed_by sign word (b ∷ bs) = if b == sign then Some (word, bs) else None
 
 -- a word, the sign behind it, and what follows
-unfoldable pub unit_at : ℕ → List ℕ → Option (List ℕ × List ℕ)
-unit_at sign bytes =
+unfoldable pub word_before : ℕ → List ℕ → Option (List ℕ × List ℕ)
+word_before sign bytes =
     closed_by sign (run_of is_run_byte (rest_after is_blank bytes)) (rest_after is_blank (rest_after is_run_byte (rest_after is_blank bytes)))
 
 -- what follows this word and the sign
 unfoldable pub after_word : List ℕ → ℕ → List ℕ → Option (List ℕ)
 after_word word sign bytes = do
-  u ← unit_at sign bytes
+  u ← word_before sign bytes
   if bytes_eq u.0 word then Some u.1 else None
 
 -- what follows a lower word and a comma
 unfoldable pub after_name : List ℕ → Option (List ℕ)
 after_name bytes = do
-  u ← unit_at 44 bytes
+  u ← word_before 44 bytes
   if is_lower_word u.0 then Some u.1 else None
 
 abbrev pub predicate_of : List ℕ → Option Predicate
@@ -54,14 +54,14 @@ predicate_of word =
 -- a predicate before a bracket, and what follows
 unfoldable pub predicate_at : List ℕ → Option (Predicate × List ℕ)
 predicate_at bytes = do
-  u ← unit_at 40 bytes
+  u ← word_before 40 bytes
   p ← predicate_of u.0
   Some (p, u.1)
 
 -- a numeral's value, and what follows the sign behind it
 unfoldable pub numeral_at : ℕ → List ℕ → Option (ℤ × List ℕ)
 numeral_at sign bytes = do
-  u ← unit_at sign bytes
+  u ← word_before sign bytes
   if is_numeral u.0 then Some (numeral_value u.0, u.1) else None
 
 -- a predicate with its two arguments in brackets
@@ -84,6 +84,6 @@ statement_at bytes = do
   Some (d.0, f)
 
 -- what was found, or else the first comparison that fails, counted from n
-abbrev pub first_or : Option (ℕ × Comparison) → ℕ → List Comparison → Option (ℕ × Comparison)
-first_or (Some f) n cs = Some f
-first_or None n cs = first_false_from n cs
+abbrev pub found_or_first : Option (ℕ × Comparison) → ℕ → List Comparison → Option (ℕ × Comparison)
+found_or_first (Some f) n cs = Some f
+found_or_first None n cs = first_false_from n cs

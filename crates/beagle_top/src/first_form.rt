@@ -4,10 +4,10 @@ ghost use Rattle.std.specs.Prelude.{◌≡◌, ◌^◌, ◌<◌, ◌≤◌, Matc
 ghost use Rattle.std.specs.List.{list_all};
 ghost use Rattle.beagle_top.specs.Bytes.{is_blank, is_lower_word, is_numeral, numeral_value, are_digits, digits_value, is_word_byte};
 ghost use Rattle.beagle_top.specs.FirstForm.{FirstFalse, NoneFalse};
-ghost use Rattle.beagle_top.specs.Reading.{after_word, after_name, predicate_of, predicate_at, numeral_at, comparison_at, statement_at, first_or};
+ghost use Rattle.beagle_top.specs.Reading.{after_word, after_name, predicate_of, predicate_at, numeral_at, comparison_at, statement_at, found_or_first};
 
 use crate::comparisons::{Comparison, Predicate};
-use crate::units::{is_blank, unit};
+use crate::words::{is_blank, word_before};
 
 fn is_word_byte(b: u8) -> bool
     ensures { result ≡ is_word_byte b }
@@ -36,7 +36,7 @@ fn after_word<'a>(text: &'a [u8], word: &[u8], sign: u8) -> Option<&'a [u8]>
     ensures { MatchOption result (after_word word.now sign text.now ≡ None)
         (λ rest. after_word word.now sign text.now ≡ Some rest.now) }
 {
-    let (found, rest) = unit(text, sign)?;
+    let (found, rest) = word_before(text, sign)?;
     if found == word { Some(rest) } else { None }
 }
 
@@ -45,7 +45,7 @@ fn after_word<'a>(text: &'a [u8], word: &[u8], sign: u8) -> Option<&'a [u8]>
 fn after_name(text: &[u8]) -> Option<&[u8]>
     ensures { MatchOption result (after_name text.now ≡ None) (λ rest. after_name text.now ≡ Some rest.now) }
 {
-    let (name, rest) = unit(text, b',')?;
+    let (name, rest) = word_before(text, b',')?;
     if is_lower_word(name) {
         Some(rest)
     } else {
@@ -106,7 +106,7 @@ fn numeral(text: &[u8]) -> Option<i64>
 fn predicate_at(text: &[u8]) -> Option<(Predicate, &[u8])>
     ensures { MatchOption result (predicate_at text.now ≡ None) (λ found. predicate_at text.now ≡ Some (found.0, found.1.now)) }
 {
-    let (word, rest) = unit(text, b'(')?;
+    let (word, rest) = word_before(text, b'(')?;
     Some((predicate_of(word)?, rest))
 }
 
@@ -114,7 +114,7 @@ fn predicate_at(text: &[u8]) -> Option<(Predicate, &[u8])>
 fn numeral_at(text: &[u8], sign: u8) -> Option<(i64, &[u8])>
     ensures { MatchOption result (numeral_at sign text.now ≡ None) (λ found. numeral_at sign text.now ≡ Some (found.0, found.1.now)) }
 {
-    let (word, rest) = unit(text, sign)?;
+    let (word, rest) = word_before(text, sign)?;
     Some((numeral(word)?, rest))
 }
 
@@ -149,12 +149,12 @@ fn is_blank_text(text: &[u8]) -> bool
 }
 
 // What was found, or else this comparison with its number, if it fails.
-fn first_of(
+fn found_or(
     found: Option<(u64, Comparison)>,
     number: u64,
     comparison: Comparison,
 ) -> Option<(u64, Comparison)>
-    ensures { result ≡ first_or found number (comparison ∷ []) }
+    ensures { result ≡ found_or_first found number (comparison ∷ []) }
 {
     match found {
         Some(first) => Some(first),
@@ -174,7 +174,7 @@ pub fn first_false(text: &[u8]) -> Option<(u64, Comparison)>
     let mut number = 0u64;
     while !is_blank_text(rest) {
         let (comparison, behind) = statement_at(rest)?;
-        found = first_of(found, number, comparison);
+        found = found_or(found, number, comparison);
         number += 1;
         rest = behind;
     }

@@ -10,7 +10,7 @@ pub mod statuses;
 mod tests;
 mod texts;
 mod top;
-mod units;
+mod words;
 
 pub use comparisons::Comparison;
 pub use laws::{one_answer, one_reading};

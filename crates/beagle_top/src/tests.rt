@@ -1,6 +1,6 @@
 //! Whole runs over ends in memory.
 
-use crate::{Ended, INPUT_LIMIT, beagle};
+use crate::{Ended, beagle};
 use byte_ends::{MemorySink, MemorySource};
 use std::alloc::{AllocError, Global};
 use std::test::Fail;
@@ -68,12 +68,17 @@ fn answers(rt: HostRuntime) -> Result<(), Fail> {
 #[test]
 fn usage(rt: HostRuntime) -> Result<(), Fail> {
     let alloc = rt.alloc();
-    let mut source = source(alloc, "tff(a,axiom,$less(3,2)).", 1)?;
-    let mut sink = MemorySink::new(alloc, 1000, 1000, Vec::new(alloc))?;
-    let words = vec![in alloc; String::from_str(alloc, "--check")?]?;
-    assert_eq!(rt; beagle(alloc, &words, &mut source, &mut sink).status, 4);
-    assert_eq!(rt; sink.bytes(), b"% usage\n".as_slice());
-    assert_eq!(rt; source.faults(), 0);
+    for line in ["--workers 9", "--check --make 1", "--help", ""] {
+        let mut words = Vec::new(alloc);
+        for word in line.split(' ') {
+            words.push(String::from_str(alloc, word)?)?;
+        }
+        let mut source = source(alloc, "tff(a,axiom,$less(3,2)).", 1)?;
+        let mut sink = MemorySink::new(alloc, 1000, 1000, Vec::new(alloc))?;
+        assert_eq!(rt; beagle(alloc, &words, &mut source, &mut sink).status, 4, "{line}");
+        assert_eq!(rt; sink.bytes(), b"% usage\n".as_slice(), "{line}");
+        assert_eq!(rt; source.faults(), 0, "{line}");
+    }
     Ok(())
 }
 
@@ -101,7 +106,7 @@ fn limit(rt: HostRuntime) -> Result<(), Fail> {
     let words = Vec::new(alloc);
     let rows = [(0, NOT_BUILT), (1, "% refused: TooLong\n")];
     for (more, written) in rows {
-        let bytes = vec![in alloc; b' '; INPUT_LIMIT as usize + more]?;
+        let bytes = vec![in alloc; b' '; 16_777_216 + more]?;
         let mut source = MemorySource::new(bytes, Vec::new(alloc));
         let mut sink = MemorySink::new(alloc, 1000, 1000, Vec::new(alloc))?;
         assert_eq!(rt; beagle(alloc, &words, &mut source, &mut sink).status, 3);

@@ -6,10 +6,13 @@ ghost use Rattle.beagle_top.specs.Texts.{refutation};
 use crate::comparisons::Comparison;
 use std::alloc::{AllocError, Global};
 
+/// The line for words that are refused.
 pub const USAGE_LINE: &str = "% usage\n";
 
+/// The line for more bytes than are read.
 pub const TOO_LONG: &str = "% refused: TooLong\n";
 
+/// The line for input that the program does not answer.
 pub const NOT_BUILT: &str = "% refused: NotBuilt\n";
 
 /// The refutation by the axiom of number `k`, whose comparison fails.

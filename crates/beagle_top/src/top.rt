@@ -2,7 +2,7 @@
 
 ghost use Rattle.std.specs.Prelude.{◌≡◌, ◌≢◌, ◌⊎◌, ◌≤◌, [], length, IfSome};
 ghost use Rattle.byte_ends.specs.Faults.{Rose};
-ghost use Rattle.beagle_top.specs.Answer.{Ends, EndsFor, IsSilent, IsStatus};
+ghost use Rattle.beagle_top.specs.Answer.{Ends, EndsFor, IsSilent, IsStatus, input_limit};
 ghost use Rattle.beagle_top.specs.Texts.{usage};
 
 use crate::answers::answer_to;
@@ -24,7 +24,7 @@ pub const INPUT_LIMIT: u64 = 16_777_216;
 // Writes the text that goes with a status.
 fn written<K: Sink>(sink: &mut K, status: u8, text: &[u8]) -> Ended
     ensures ends { Ends status text.now (K.holds sink.old) (K.holds sink.new) result.status }
-    ensures fault { (result.status ≡ status) ⊎ ((result.status ≡ WRITE_FAULT) × Rose (K.faults sink.old) (K.faults sink.new)) }
+    ensures fault { (result.status ≡ status) ⊎ ((result.status ≡ 6) × Rose (K.faults sink.old) (K.faults sink.new)) }
     ensures faults { K.faults sink.old ≤ K.faults sink.new }
 {
     match put_all(sink, text) {
@@ -37,13 +37,13 @@ fn written<K: Sink>(sink: &mut K, status: u8, text: &[u8]) -> Ended
 
 // Answers the bytes of a problem.
 fn answered<K: Sink>(alloc: Global, bytes: &[u8], sink: &mut K) -> Ended
-    requires { length bytes.now ≤ INPUT_LIMIT }
+    requires { length bytes.now ≤ input_limit }
     ensures status { IsStatus result.status }
-    ensures ends { result.status ≢ MEMORY → EndsFor bytes.now (K.holds sink.old) (K.holds sink.new) result.status }
-    ensures memory { result.status ≡ MEMORY → sink.new ≡ sink.old }
-    ensures no_usage { result.status ≢ USAGE }
-    ensures no_read_fault { result.status ≢ READ_FAULT }
-    ensures write_fault { result.status ≡ WRITE_FAULT → Rose (K.faults sink.old) (K.faults sink.new) }
+    ensures ends { result.status ≢ 7 → EndsFor bytes.now (K.holds sink.old) (K.holds sink.new) result.status }
+    ensures memory { result.status ≡ 7 → sink.new ≡ sink.old }
+    ensures no_usage { result.status ≢ 4 }
+    ensures no_read_fault { result.status ≢ 5 }
+    ensures write_fault { result.status ≡ 6 → Rose (K.faults sink.old) (K.faults sink.new) }
     ensures faults { K.faults sink.old ≤ K.faults sink.new }
 {
     match answer_to(alloc, bytes) {
@@ -71,8 +71,8 @@ pub fn beagle<S: Source, K: Sink>(
     ensures status { IsStatus result.status }
 
     // A word is refused, whatever the source has, and the source isn't read.
-    ensures usage { words.now ≢ [] → Ends USAGE usage (K.holds sink.old) (K.holds sink.new) result.status }
-    ensures usage_only { result.status ≡ USAGE → words.now ≢ [] }
+    ensures usage { words.now ≢ [] → Ends 4 usage (K.holds sink.old) (K.holds sink.new) result.status }
+    ensures usage_only { result.status ≡ 4 → words.now ≢ [] }
     ensures unread { words.now ≢ [] → source.new ≡ source.old }
 
     // Without a word, what is due for the source's bytes is written.
@@ -80,8 +80,8 @@ pub fn beagle<S: Source, K: Sink>(
         (λ bytes. EndsFor bytes (K.holds sink.old) (K.holds sink.new) result.status) }
 
     // The faults of the ends, and want of memory.
-    ensures read_fault { result.status ≡ READ_FAULT → Rose (S.faults source.old) (S.faults source.new) }
-    ensures write_fault { result.status ≡ WRITE_FAULT → Rose (K.faults sink.old) (K.faults sink.new) }
+    ensures read_fault { result.status ≡ 5 → Rose (S.faults source.old) (S.faults source.new) }
+    ensures write_fault { result.status ≡ 6 → Rose (K.faults sink.old) (K.faults sink.new) }
     ensures silent { IsSilent result.status → sink.new ≡ sink.old }
     ensures source_faults { S.faults source.old ≤ S.faults source.new }
     ensures sink_faults { K.faults sink.old ≤ K.faults sink.new }

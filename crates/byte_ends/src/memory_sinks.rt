@@ -14,6 +14,7 @@ use std::marker::Model;
 pub struct SureSink;
 
 impl SureSink {
+    /// A sink that takes and forgets everything.
     pub fn new() -> Self {
         SureSink
     }

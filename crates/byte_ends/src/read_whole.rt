@@ -1,5 +1,5 @@
 // Reads a source to its end.
-ghost use Rattle.std.specs.Prelude.{◌≡◌, ◌+◌, ◌<◌, ◌≤◌, ◌++◌, ℕ, List, [], length, take, drop, IfOk, OnOk, OnErr, IfSome, IsErrOf, Some};
+ghost use Rattle.std.specs.Prelude.{◌≡◌, ◌+◌, ◌<◌, ◌≤◌, ◌++◌, ℕ, List, [], length, take, drop, IfOk, OnOk, IfSome, IsErrOf, Some};
 ghost use Rattle.std.specs.Io.KnownBytes.{Consumes};
 ghost use Rattle.byte_ends.specs.Faults.{Rose};
 ghost use Rattle.byte_ends.specs.declared.read_whole.ReadEnd.TheVariants as end;
@@ -58,8 +58,10 @@ pub fn read_all<S: Source>(alloc: Global, source: &mut S, limit: u64) -> Result<
         IfSome (S.left source.old) (λ bytes. S.left source.new ≡ Some (drop (limit + 1) bytes)) }
 
     ensures failed { IsErrOf result ReadEnd.Failed → Rose (S.faults source.old) (S.faults source.new) }
-    ensures err { OnErr result (IfSome (S.left source.old) (λ bytes.
-        (n : ℕ) × (n ≤ limit + 1) × (S.left source.new ≡ Some (drop n bytes)))) }
+    ensures failed_within { IsErrOf result ReadEnd.Failed → IfSome (S.left source.old) (λ bytes.
+        (n : ℕ) × (n ≤ limit) × (S.left source.new ≡ Some (drop n bytes))) }
+    ensures memory_within { IsErrOf result ReadEnd.Memory → IfSome (S.left source.old) (λ bytes.
+        (n : ℕ) × (n ≤ limit) × (S.left source.new ≡ Some (drop n bytes))) }
     ensures faults { S.faults source.old ≤ S.faults source.new }
 {
     let mut buffer = vec![in alloc; 0u8; PIECE]?;
@@ -90,7 +92,9 @@ fn read_piece<S: Source>(
     ensures end { IfOk result (λ n. n ≡ 0 → IfSome (S.left source.old) (λ bytes. bytes ≡ [])) }
     ensures too_long { IsErrOf result ReadEnd.TooLong → ((piece : List ℕ) × (length piece ≡ room + 1)
         × Consumes (S.left source.old) (S.left source.new) piece) }
-    ensures err { OnErr result ((piece : List ℕ) × (length piece ≤ room + 1)
+    ensures failed_within { IsErrOf result ReadEnd.Failed → ((piece : List ℕ) × (length piece ≤ room)
+        × Consumes (S.left source.old) (S.left source.new) piece) }
+    ensures memory_within { IsErrOf result ReadEnd.Memory → ((piece : List ℕ) × (length piece ≤ room)
         × Consumes (S.left source.old) (S.left source.new) piece) }
     ensures failed { IsErrOf result ReadEnd.Failed → Rose (S.faults source.old) (S.faults source.new) }
     ensures faults { S.faults source.old ≤ S.faults source.new }

@@ -25,6 +25,23 @@ impl Write for Broken {
     }
 }
 
+// A writer that takes all and counts how often it was flushed.
+#[derive(Drop)]
+struct Flushed {
+    count: u32,
+}
+
+impl Write for Flushed {
+    fn write(&mut self, from: &[u8]) -> io::Result<usize> {
+        Ok(from.len())
+    }
+
+    fn flush(&mut self) -> io::Result<()> {
+        self.count = self.count.saturating_add(1);
+        Ok(())
+    }
+}
+
 #[test]
 fn reads_up_to_the_limit(rt: HostRuntime) -> Result<(), Fail> {
     let alloc = rt.alloc();
@@ -118,6 +135,11 @@ fn std_readers_and_writers(rt: HostRuntime) -> Result<(), Fail> {
     let mut sink = StdSink::new(&mut written);
     assert_eq!(rt; put_all(&mut sink, TEXT), Ok(()));
     assert_eq!(rt; written.as_slice(), TEXT);
+
+    let mut flushed = Flushed { count: 0 };
+    let mut sink = StdSink::new(&mut flushed);
+    assert_eq!(rt; put_all(&mut sink, TEXT), Ok(()));
+    assert_eq!(rt; flushed.count, 1);
     Ok(())
 }
 

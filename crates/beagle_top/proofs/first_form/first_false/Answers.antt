@@ -16,7 +16,7 @@ loop-rest-smaller c =
 
 pub loop-rest-preserved : goal.loop-rest-preserved
 loop-rest-preserved c =
-    subst (λ f. Reads c.args.text.now c.in_ok-comparison.behind.now f (c.loop-rest.number + 1)) (sym c.first_of-found.ensures)
+    subst (λ f. Reads c.args.text.now c.in_ok-comparison.behind.now f (c.loop-rest.number + 1)) (sym c.found_or-found.ensures)
     (goes_on c.args.text.now c.loop-rest.rest.now c.in_ok-comparison.behind.now c.loop-rest.found c.loop-rest.number c.in_ok-comparison.comparison c.loop-rest.invariant c.in_ok-comparison.ensures)
 
 pub returns-clause-found : goal.returns-clause-found

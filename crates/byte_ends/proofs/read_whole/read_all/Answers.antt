@@ -1,6 +1,6 @@
 use Rattle.std.proofs.Common.{arith, length-append, length-take, length-drop, length, ◌≡◌, ◌++◌, ◌+◌, ◌∙◌}
 use Rattle.byte_ends.proofs.Told.{consumes_none, consumes_more, left_within, left_after, told_as_long, whole_read, none_left}
-use Rattle.byte_ends.proofs.Outcomes.{on_err, same_err}
+use Rattle.byte_ends.proofs.Outcomes.{same_err}
 use Rattle.byte_ends.specs.declared.read_whole.ReadEnd.TheVariants as end
 use Rattle.byte_ends.proofs.read_whole.read_all.Goals as goal
 
@@ -12,10 +12,15 @@ pieces-init g c = record {
   buffer = omega (arith, c.in_ok-buffer.ensures.len, c.in_ok-buffer.buffer.ok.0);
 }
 
-pub returns-in_err-n-clause-err : goal.returns-in_err-n-clause-err
-returns-in_err-n-clause-err g c =
-    let piece = c.in_err-n.ensures.err in
-    on_err _ (left_within _ _ (c.pieces.all.items ++ piece.0) _ (consumes_more _ _ _ _ _ c.pieces.invariant.read piece.2) (omega (arith, length-append c.pieces.all.items piece.0, piece.1)))
+pub returns-in_err-n-clause-failed_within : goal.returns-in_err-n-clause-failed_within
+returns-in_err-n-clause-failed_within g c = λ is.
+    let piece = c.in_err-n.ensures.failed_within (same_err _ end.Failed _ c.from_residual-in_err-n.ensures.1 is) in
+    left_within _ _ (c.pieces.all.items ++ piece.0) _ (consumes_more _ _ _ _ _ c.pieces.invariant.read piece.2) (omega (arith, length-append c.pieces.all.items piece.0, piece.1))
+
+pub returns-in_err-n-clause-memory_within : goal.returns-in_err-n-clause-memory_within
+returns-in_err-n-clause-memory_within g c = λ is.
+    let piece = c.in_err-n.ensures.memory_within (same_err _ end.Memory _ c.from_residual-in_err-n.ensures.1 is) in
+    left_within _ _ (c.pieces.all.items ++ piece.0) _ (consumes_more _ _ _ _ _ c.pieces.invariant.read piece.2) (omega (arith, length-append c.pieces.all.items piece.0, piece.1))
 
 pub returns-in_err-n-clause-too_long : goal.returns-in_err-n-clause-too_long
 returns-in_err-n-clause-too_long g c = λ is.

@@ -2,7 +2,7 @@
 
 ghost use Rattle.std.specs.Prelude.{◌≡◌, length, MatchOption, None, Some};
 ghost use Rattle.beagle_top.specs.Bytes.{is_blank, is_run_byte};
-ghost use Rattle.beagle_top.specs.Reading.{rest_after, run_of, unit_at};
+ghost use Rattle.beagle_top.specs.Reading.{rest_after, run_of, word_before};
 
 /// Whether a byte is white space.
 pub fn is_blank(b: u8) -> bool
@@ -54,10 +54,10 @@ fn split_run(text: &[u8]) -> (&[u8], &[u8])
 }
 
 /// The word in front, where this sign follows it, and what is behind the sign.
-#[tactic(auto, unfolding(crate::specs::Reading::unit_at))]
-pub fn unit(text: &[u8], sign: u8) -> Option<(&[u8], &[u8])>
-    ensures { MatchOption result (unit_at sign text.now ≡ None)
-        (λ found. unit_at sign text.now ≡ Some (found.0.now, found.1.now)) }
+#[tactic(auto, unfolding(crate::specs::Reading::word_before))]
+pub fn word_before(text: &[u8], sign: u8) -> Option<(&[u8], &[u8])>
+    ensures { MatchOption result (word_before sign text.now ≡ None)
+        (λ found. word_before sign text.now ≡ Some (found.0.now, found.1.now)) }
 {
     let (word, behind) = split_run(without_blanks(text));
     match without_blanks(behind) {

@@ -1,7 +1,7 @@
 use Rattle.std.proofs.Common.{◌≡◌, length}
 use Rattle.beagle_top.specs.Bytes.{is_blank}
 use Rattle.beagle_top.specs.Reading.{rest_after}
-use Rattle.beagle_top.proofs.units.without_blanks.Given as goal
+use Rattle.beagle_top.proofs.words.without_blanks.Given as goal
 
 abbrev pub invariant-loop-rest : goal.invariant-loop-rest
 invariant-loop-rest l = rest_after is_blank l.rest ≡ rest_after is_blank l.fn.text
