@@ -1,7 +1,7 @@
 -- The certificate of a comparison that fails.
-use Rattle.std.proofs.Common.{◌≡◌, ℕ, ◌+◌, ◌<◌, ◌≤◌, Bool, true, false, not, ◌&&◌, List, [], ◌∷◌, ℤ, pos, negsuc, ◌+ℤ◌, ◌-ℤ◌, ◌≤ℤ◌, Option, Some, None, cond, suc, refl, sym, ap, subst, ◌∙◌, arith, rules, tests}
+use Rattle.std.proofs.Common.{◌≡◌, ℕ, Bool, true, false, not, List, [], ◌∷◌, pos, ◌+ℤ◌, Option, Some, cond, suc, refl, sym, ap, ◌∙◌, arith}
 use Rattle.std.proofs.lemmas.Int.{ints}
-use Rattle.std.proofs.lemmas.Bool.{and_from, false≢true}
+use Rattle.std.proofs.lemmas.Bool.{and_from}
 use Rattle.std.specs.Prelude.{int_lt, int_le, IsTrue}
 use Rattle.lin_base.specs.declared.facts.Fact.{Fact}
 use Rattle.lin_base.specs.declared.facts.Fact.TheVariants.{AtMostZero}
@@ -11,7 +11,7 @@ use Rattle.cert_tree.specs.declared.certs.Tree.TheFolds.{fold-roll-Tree}
 use Rattle.cert_tree.specs.declared.certs.Tree.TheViews.{roll-Tree}
 use Rattle.cert_tree.specs.declared.certs.Tree.TheOpen.{Case, Clash}
 use Rattle.cert_tree.specs.declared.certs.Tree.TheVariants as term
-use Rattle.cert_tree.specs.Stands.{Node, Stands, stands, node_stands, tree_stands, is_clash}
+use Rattle.cert_tree.specs.Stands.{Node, Stands, node_stands, tree_stands}
 use Rattle.beagle_top.specs.declared.comparisons.Comparison.{Comparison}
 use Rattle.beagle_top.specs.declared.comparisons.Comparison.TheVariants.{Less, LessEq}
 use Rattle.cert_tree.specs.Laws.{StandsImpossible}

@@ -1,9 +1,9 @@
 -- One reading and one answer for given bytes.
-use Rattle.std.proofs.Common.{◌≡◌, ℕ, ◌+◌, ◌<◌, ◌≤◌, List, [], ◌∷◌, length, Option, Some, None, ◌⊎◌, inl, inr, refl, sym, ap, subst, ◌∙◌, arith}
+use Rattle.std.proofs.Common.{◌≡◌, ℕ, List, [], ◌∷◌, Option, Some, None, inl, inr, refl, sym, ap, subst, ◌∙◌, arith}
 use Rattle.beagle_top.specs.declared.comparisons.Comparison.{Comparison}
-use Rattle.beagle_top.specs.FirstForm.{IsFile, BeginsWith, NoneFalse, first_false_from}
+use Rattle.beagle_top.specs.FirstForm.{IsFile, NoneFalse, first_false_from}
 use Rattle.beagle_top.specs.Texts.{refutation}
-use Rattle.beagle_top.specs.Answer.{Refutes, Refuses, IsAnswer, IsDueFor}
+use Rattle.beagle_top.specs.Answer.{Refutes, IsAnswer, IsDueFor}
 use Rattle.beagle_top.proofs.Statements.{statement_read, blank_no_statement}
 use Rattle.beagle_top.proofs.Files.{same_statement}
 

@@ -75,7 +75,11 @@ fn usage(rt: HostRuntime) -> Result<(), Fail> {
         }
         let mut source = source(alloc, "tff(a,axiom,$less(3,2)).", 1)?;
         let mut sink = MemorySink::new(alloc, 1000, 1000, Vec::new(alloc))?;
-        assert_eq!(rt; beagle(alloc, &words, &mut source, &mut sink).status, 4, "{line}");
+        assert_eq!(rt;
+            beagle(alloc, &words, &mut source, &mut sink).status,
+            4,
+            "{line}"
+        );
         assert_eq!(rt; sink.bytes(), b"% usage\n".as_slice(), "{line}");
         assert_eq!(rt; source.faults(), 0, "{line}");
     }
