@@ -1,11 +1,12 @@
 -- Clauses that are well sorted over a signature, and background clauses.
-use Rattle.std.specs.Prelude.{Bool, false, ◌||◌, ◌&&◌, not, List, Option, Some, None}
+use Rattle.std.specs.Prelude.{Bool, false, ◌&&◌, not, List, Option, Some, None}
 use Rattle.std.specs.List.{list_all}
 use Rattle.term_base.specs.declared.symbols.Sort.{Sort}
 use Rattle.term_base.specs.declared.symbols.Sort.TheVariants.{Int}
 use Rattle.term_base.specs.declared.symbols.Symbol.{Symbol}
 use Rattle.term_base.specs.Sorting.{sort, has_sort}
 use Rattle.term_base.specs.Purity.{foreground, foreign}
+use Rattle.term_base.specs.Trees.{Tree}
 use Rattle.term_base.specs.Lits.{Relation, equal, differ, at_most, Lit}
 
 -- both sides are well sorted and have one sort
@@ -27,8 +28,11 @@ abbrev pub is_well_sorted : List Symbol → List Lit → Bool
 is_well_sorted signature = list_all (is_lit_sorted signature)
 
 -- no foreground symbol and no variable of another sort than Int is in it
+abbrev pub is_background_tree : List Symbol → Tree → Bool
+is_background_tree signature t = not (foreground signature t) && not (foreign t)
+
 abbrev pub is_background_lit : List Symbol → Lit → Bool
-is_background_lit signature l = not (foreground signature l.left || foreground signature l.right) && not (foreign l.left || foreign l.right)
+is_background_lit signature l = is_background_tree signature l.left && is_background_tree signature l.right
 
 -- no literal has a foreground symbol or a variable of another sort than Int
 abbrev pub is_background : List Symbol → List Lit → Bool

@@ -1,5 +1,6 @@
 pub mod Classes
 pub mod Clauses
+pub mod LitLemmas
 pub mod Lits
 pub mod Places
 pub mod Proper
@@ -8,10 +9,12 @@ pub mod Redundancy
 pub mod Same
 pub mod SameLemmas
 pub mod Sorting
+pub mod SubstLemmas
 pub mod Substitution
 pub mod TermFolds
 pub mod TermInduction
 pub mod TreeBack
+pub mod TreeLemmas
 pub mod TreeOf
 pub mod Trees
 pub mod VariableOrder
