@@ -8,6 +8,7 @@ pub mod Purity
 pub mod Redundancy
 pub mod Same
 pub mod SameLemmas
+pub mod SameTerm
 pub mod Sorting
 pub mod SubstLemmas
 pub mod Substitution

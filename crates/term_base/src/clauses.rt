@@ -1,6 +1,6 @@
 //! Literals and clauses.
 
-ghost use Rattle.std.specs.Prelude.{◌≡◌, IfOk};
+ghost use Rattle.std.specs.Prelude.{◌≡◌, ◌↔◌, IsTrue, IfOk};
 
 use crate::terms::Term;
 use sqlite_items::Items;
@@ -31,6 +31,18 @@ impl Literal {
             Literal::AtMost(a, b) => Ok(Literal::AtMost(a.copy(alloc)?, b.copy(alloc)?)),
         }
     }
+
+    /// Whether two literals are equal.
+    pub fn same(&self, other: &Literal) -> bool
+        ensures { IsTrue result ↔ (self.now ≡ other.now) }
+    {
+        match (self, other) {
+            (Literal::Equal(a, b), Literal::Equal(c, d)) => a.same(c) && b.same(d),
+            (Literal::Differ(a, b), Literal::Differ(c, d)) => a.same(c) && b.same(d),
+            (Literal::AtMost(a, b), Literal::AtMost(c, d)) => a.same(c) && b.same(d),
+            _ => false,
+        }
+    }
 }
 
 impl Clause {
@@ -43,5 +55,24 @@ impl Clause {
             literals.push(literal.copy(alloc)?)?;
         }
         Ok(Clause { literals })
+    }
+
+    /// Whether two clauses have the same literals in the same order.
+    pub fn same(&self, other: &Clause) -> bool
+        ensures { IsTrue result ↔ (self.now ≡ other.now) }
+    {
+        let mut rest = other.literals.as_slice();
+        for literal in self.literals.as_slice() {
+            match rest {
+                [] => return false,
+                [next, others @ ..] => {
+                    if !literal.same(next) {
+                        return false;
+                    }
+                    rest = others;
+                }
+            }
+        }
+        rest.is_empty()
     }
 }

@@ -21,6 +21,6 @@ pub use purities::{has_foreground, is_background, is_foreground, purity};
 pub use sorting::{is_well_sorted_term, sort_of, well_sorted};
 pub use substs::Subst;
 pub use symbols::{Class, Sort, Sorts, Symbol, class_of};
-pub use terms::{Purity, Term, copy_all};
+pub use terms::{Purity, Term, copy_all, same_all};
 pub use variables::{Kind, Variable};
 pub use weights::weight;

@@ -1,6 +1,6 @@
 //! Sides of literals, paths into terms, and places of clauses.
 
-ghost use Rattle.std.specs.Prelude.{◌≡◌, IfOk};
+ghost use Rattle.std.specs.Prelude.{◌≡◌, ◌↔◌, IsTrue, IfOk};
 
 use smallvec::SmallVec;
 use std::alloc::{AllocError, Global};
@@ -51,6 +51,13 @@ impl Path {
     {
         Path::from_slice(alloc, self.as_slice())
     }
+
+    /// Whether two paths are equal.
+    pub fn same(&self, other: &Path) -> bool
+        ensures { IsTrue result ↔ (self.now ≡ other.now) }
+    {
+        self.as_slice() == other.as_slice()
+    }
 }
 
 /// A place of a clause: a literal by its number from 0, one of its sides, and a path into the term there.
@@ -71,5 +78,12 @@ impl Place {
             side: self.side,
             path: self.path.copy(alloc)?,
         })
+    }
+
+    /// Whether two places are equal.
+    pub fn same(&self, other: &Place) -> bool
+        ensures { IsTrue result ↔ (self.now ≡ other.now) }
+    {
+        self.literal == other.literal && self.side == other.side && self.path.same(&other.path)
     }
 }

@@ -59,6 +59,23 @@ impl Term {
             Term::App(f, args) => Ok(Term::App(*f, copy_all(alloc, args.as_slice())?)),
         }
     }
+
+    /// Whether two terms are equal.
+    #[cycle(same)]
+    pub fn same(&self, other: &Term) -> bool
+        ensures { IsTrue result ↔ (self.now ≡ other.now) }
+    {
+        match (self, other) {
+            (Term::Var(v), Term::Var(w)) => v.same(*w),
+            (Term::Num(m), Term::Num(n)) => *m == *n,
+            (Term::True, Term::True) => true,
+            (Term::Sum(a, b), Term::Sum(c, d)) => a.get().same(c.get()) && b.get().same(d.get()),
+            (Term::Scale(j, a), Term::Scale(k, b)) => *j == *k && a.get().same(b.get()),
+            (Term::App(f, xs), Term::App(g, ys)) => *f == *g
+                && same_all(xs.as_slice(), ys.as_slice()),
+            _ => false,
+        }
+    }
 }
 
 /// A list of terms that equals these.
@@ -71,4 +88,43 @@ pub fn copy_all(alloc: Global, terms: &[Term]) -> Result<Items<Term>, AllocError
         all.push(term.copy(alloc)?)?;
     }
     Ok(all)
+}
+
+/// Whether two lists of terms are equal.
+#[cycle(same)]
+pub fn same_all(xs: &[Term], ys: &[Term]) -> bool
+    ensures { IsTrue result ↔ (xs.now ≡ ys.now) }
+{
+    let mut rest = ys;
+    for x in xs {
+        match rest {
+            [] => return false,
+            [y, others @ ..] => {
+                if !x.same(y) {
+                    return false;
+                }
+                rest = others;
+            }
+        }
+    }
+    rest.is_empty()
+}
+
+impl PartialEq for Term {
+    ghost use Rattle.std.specs.Cmp.{partial_equiv_from_equiv};
+    ghost use Rattle.term_base.specs.SameTerm.{same_term, same_term_equiv};
+
+    ghost eq = { same_term };
+
+    ghost laws = { partial_equiv_from_equiv same_term_equiv };
+
+    fn eq(&self, other: &Term) -> bool {
+        self.same(other)
+    }
+}
+
+impl Eq for Term {
+    ghost use Rattle.term_base.specs.SameTerm.{same_term_equiv};
+
+    ghost laws = { same_term_equiv };
 }

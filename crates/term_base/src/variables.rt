@@ -1,6 +1,6 @@
 //! Variables.
 
-ghost use Rattle.std.specs.Prelude.{◌≡◌};
+ghost use Rattle.std.specs.Prelude.{◌≡◌, ◌↔◌, IsTrue};
 ghost use Rattle.term_base.specs.Proper.{IsProper};
 
 use crate::symbols::Sort;
@@ -72,5 +72,12 @@ impl Variable {
         ensures { result ≡ variable_cmp self other }
     {
         self.cmp(&other)
+    }
+
+    /// Whether two variables are one.
+    pub fn same(self, other: Variable) -> bool
+        ensures { IsTrue result ↔ (self ≡ other) }
+    {
+        self == other
     }
 }
