@@ -11,6 +11,7 @@ pub mod SameLemmas
 pub mod SameTerm
 pub mod Sorting
 pub mod SubstLemmas
+pub mod SubstTest
 pub mod Substitution
 pub mod TermFolds
 pub mod TermInduction
@@ -19,4 +20,5 @@ pub mod TreeLemmas
 pub mod TreeOf
 pub mod Trees
 pub mod VariableOrder
+pub mod VariableOrderLemmas
 pub mod Weight

@@ -2,7 +2,6 @@
 use Rattle.std.specs.Prelude.{ℕ}
 use Rattle.std.specs.Ordering.{nat_cmp, on, then_cmp}
 use Rattle.std.specs.declared.cmp.Ordering.{Ordering}
-use Rattle.std.specs.declared.cmp.Ordering.TheVariants.{Less, Equal, Greater}
 use Rattle.term_base.specs.declared.symbols.Sort.{Sort}
 use Rattle.term_base.specs.declared.symbols.Sort.TheVariants.{Individual, Int, Declared, Truth}
 use Rattle.term_base.specs.declared.variables.Kind.{Kind}
@@ -10,11 +9,12 @@ use Rattle.term_base.specs.declared.variables.Kind.TheVariants.{Abstraction, Ord
 use Rattle.term_base.specs.declared.variables.Variable.{Variable}
 
 -- abstraction variables come before ordinary ones
+abbrev pub kind_rank : Kind → ℕ
+kind_rank Abstraction = 0
+kind_rank Ordinary = 1
+
 abbrev pub kind_cmp : Kind → Kind → Ordering
-kind_cmp Abstraction Abstraction = Equal
-kind_cmp Abstraction Ordinary = Less
-kind_cmp Ordinary Abstraction = Greater
-kind_cmp Ordinary Ordinary = Equal
+kind_cmp = on kind_rank nat_cmp
 
 abbrev pub sort_rank : Sort → ℕ
 sort_rank Individual = 0
