@@ -1,5 +1,5 @@
 -- The test of a substitution, and what a search among its pairs finds.
-use Rattle.std.proofs.Common.{◌≡◌, ◌≢◌, ◌<◌, ◌≤◌, ◌+◌, ◌⊎◌, inl, inr, ℕ, zero, suc, Bool, true, false, ◌&&◌, not, List, [], ◌∷◌, length, refl, ap, sym, ◌∙◌, subst, arith}
+use Rattle.std.proofs.Common.{◌≡◌, ◌≢◌, ◌<◌, inl, inr, ℕ, zero, suc, Bool, true, false, ◌&&◌, not, List, [], ◌∷◌, length, refl, ap, sym, ◌∙◌, subst, arith}
 use Rattle.std.specs.Prelude.{Option, Some, None, Result, Ok, Err, All, AllPairs}
 use Rattle.std.specs.List.{slice_index_or, AllWithin}
 use Rattle.std.specs.List.Sorted.{IsNonDecreasingBy, IsSearchInRange, IsBinarySearchResult}
@@ -16,7 +16,7 @@ use Rattle.term_base.specs.declared.variables.Variable.{Variable}
 use Rattle.term_base.specs.Same.{same_variable}
 use Rattle.term_base.specs.SameLemmas.{same_variable-true, same_variable-refl}
 use Rattle.term_base.specs.SameTerm.{same_term, same_term-true, same_term-refl}
-use Rattle.term_base.specs.Trees.{Tree, tree, var}
+use Rattle.term_base.specs.Trees.{tree, var}
 use Rattle.term_base.specs.TreeLemmas.{true_or_false, both_ways, and-true}
 use Rattle.term_base.specs.Substitution.{image, IsSubstitution}
 use Rattle.term_base.specs.SubstTest.{follows, ascends_after}
@@ -46,8 +46,9 @@ moves_test p h e = both_ways (same_term p.1 (term.Var p.0)) (ap (λ t. same_term
 
 test_moves : (p : Variable × Term) → Moves p → not (same_term p.1 (term.Var p.0)) ≡ true
 test_moves p h = elim (true_or_false (same_term p.1 (term.Var p.0))) [
-    inl e ↦ absurd (h (same_term-true p.1 (term.Var p.0) e))
-  | inr e ↦ (rw e refl) ]
+  | inl e ↦ absurd (h (same_term-true p.1 (term.Var p.0) e))
+  | inr e ↦ (rw e refl)
+]
 
 -- all variables are above the last one
 above_last : (u : Variable) (ps : Pairs) → ascends_after (Some u) ps ≡ true → All (λ p. variable_cmp u p.0 ≡ Less) ps
@@ -58,7 +59,7 @@ above_last u (p ∷ rest) h =
     let here : variable_cmp u p.0 ≡ Less = lt-less (variable_cmp u p.0) first.0 in
     let there = above_last p.0 rest later.1 in
     All-cons (λ q. variable_cmp u q.0 ≡ Less) p rest here
-        (λ k d in_range. variable_cmp_total.trans u p.0 (slice_index_or rest k d).0 here (there k d in_range))
+    (λ k d in_range. variable_cmp_total.trans u p.0 (slice_index_or rest k d).0 here (there k d in_range))
 
 ascending_test : (last : Option Variable) (ps : Pairs) → ascends_after last ps ≡ true → AllPairs Below ps
 ascending_test last [] h = λ i j d lt in_range. absurd (omega arith)
@@ -75,7 +76,7 @@ moving_test last (p ∷ rest) h =
     All-cons Moves p rest (moves_test p later.0) (moving_test (Some p.0) rest later.1)
 
 pub test_is_right : (ps : Pairs) → ascends_after None ps ≡ true → IsSubstitution ps
-test_is_right ps h = record { ascending = ascending_test None ps h; moves = moving_test None ps h; }
+test_is_right ps h = record { ascending = ascending_test None ps h; moves = moving_test None ps h }
 
 pairs_tail : (p : Variable × Term) (rest : Pairs) → AllPairs Below (p ∷ rest) → AllPairs Below rest
 pairs_tail p rest h i j d lt in_range = h (suc i) (suc j) d (omega arith) (omega arith)
@@ -99,13 +100,15 @@ right_passes_test ps s = test_passes None ps s.ascending s.moves (λ k d in_rang
 -- the comparisons with a variable rise along the pairs, as a binary search asks
 pub comparisons_rise : (ps : Pairs) (v : Variable) → AllPairs Below ps → IsNonDecreasingBy (λ p. ordering_index (variable_cmp p.0 v)) ps
 comparisons_rise ps v up i j d le in_range = elim (eq-or-lt_of_le le) [
-    inl e ↦ (rw e (omega arith))
-  | inr lt ↦ variable_cmp-rises (slice_index_or ps i d).0 (slice_index_or ps j d).0 v (up i j d lt in_range) ]
+  | inl e ↦ (rw e (omega arith))
+  | inr lt ↦ variable_cmp-rises (slice_index_or ps i d).0 (slice_index_or ps j d).0 v (up i j d lt in_range)
+]
 
 different : (p v : Variable) → variable_cmp p v ≢ Equal → same_variable p v ≡ false
 different p v h = elim (true_or_false (same_variable p v)) [
-    inl e ↦ absurd (h (ap (λ z. variable_cmp z v) (same_variable-true p v e) ∙ variable_cmp-refl v))
-  | inr e ↦ e ]
+  | inl e ↦ absurd (h (ap (λ z. variable_cmp z v) (same_variable-true p v e) ∙ variable_cmp-refl v))
+  | inr e ↦ e
+]
 
 -- the image of a variable that has a pair
 pub image-found : (ps : Pairs) (v : Variable) → AllPairs Below ps → (k : ℕ) (d : Variable × Term) → k < length ps → variable_cmp (slice_index_or ps k d).0 v ≡ Equal → image ps v ≡ tree (slice_index_or ps k d).1
@@ -133,13 +136,14 @@ module _ (cmp : Variable → Variable → Ordering) (agrees : (u w : Variable) �
   found_there (Ok k) at e in_range is d =
       let same : k ≡ at = cc in
       subst (λ n. image ps v ≡ tree (slice_index_or ps n d).1) same
-          (image-found ps v s.ascending k d in_range (sym (agrees (slice_index_or ps k d).0 v) ∙ is d))
+      (image-found ps v s.ascending k d in_range (sym (agrees (slice_index_or ps k d).0 v) ∙ is d))
   found_there (Err k) at e in_range is d = cc
 
   compared_apart : (k i : ℕ) → (AllWithin (λ p. Compared p ≡ Less) ps 0 i × AllWithin (λ p. Compared p ≡ Greater) ps i (length ps)) → (d : Variable × Term) → k < length ps → variable_cmp (slice_index_or ps k d).0 v ≢ Equal
   compared_apart k i parts d in_range same = elim (cases_lt k i) [
-      inl before ↦ (let less = parts.0 k d (omega arith) before in let agreed = agrees (slice_index_or ps k d).0 v in cc)
-    | inr after ↦ (let greater = parts.1 k d after in_range in let agreed = agrees (slice_index_or ps k d).0 v in cc) ]
+    | inl before ↦ (let less = parts.0 k d (omega arith) before in let agreed = agrees (slice_index_or ps k d).0 v in cc)
+    | inr after ↦ (let greater = parts.1 k d after in_range in let agreed = agrees (slice_index_or ps k d).0 v in cc)
+  ]
 
   rising : IsNonDecreasingBy (λ p. ordering_index (Compared p)) ps
   rising i j d le in_range =

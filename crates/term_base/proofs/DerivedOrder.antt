@@ -1,11 +1,6 @@
 -- The derived order of variables is the stated one.
-use Rattle.std.proofs.Common.{◌≡◌, refl, rules, arith}
-use Rattle.std.proofs.lemmas.Grind.{common_steps}
+use Rattle.std.proofs.Common.{◌≡◌, rules}
 use Rattle.std.specs.declared.cmp.Ordering.{Ordering}
-use Rattle.term_base.specs.declared.symbols.Sort.{Sort}
-use Rattle.term_base.specs.declared.symbols.Sort.TheVariants.{Individual, Int, Declared, Truth}
-use Rattle.term_base.specs.declared.variables.Kind.{Kind}
-use Rattle.term_base.specs.declared.variables.Kind.TheVariants.{Abstraction, Ordinary}
 use Rattle.term_base.specs.declared.variables.Variable.{Variable}
 use Rattle.term_base.specs.contracts.variables.VariableOrd.TheImpl.{ghosts}
 use Rattle.term_base.specs.VariableOrder.{variable_cmp}

@@ -2,6 +2,7 @@ pub mod Classes
 pub mod Clauses
 pub mod LitLemmas
 pub mod Lits
+pub mod Nodes
 pub mod Places
 pub mod Proper
 pub mod Purity
@@ -9,6 +10,7 @@ pub mod Redundancy
 pub mod Same
 pub mod SameLemmas
 pub mod SameTerm
+pub mod SimpleTest
 pub mod Sorting
 pub mod SubstLemmas
 pub mod SubstTest
@@ -17,6 +19,7 @@ pub mod TermFolds
 pub mod TermInduction
 pub mod TreeBack
 pub mod TreeLemmas
+pub mod TreeLists
 pub mod TreeOf
 pub mod Trees
 pub mod VariableOrder

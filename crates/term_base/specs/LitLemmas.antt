@@ -1,15 +1,15 @@
 -- Places and substitution.
-use Rattle.std.proofs.Common.{◌≡◌, ◌⊎◌, inl, inr, ℕ, zero, suc, Bool, true, false, ◌||◌, List, [], ◌∷◌, ◌++◌, map, refl, ap, sym, ◌∙◌, subst}
+use Rattle.std.proofs.Common.{◌≡◌, ℕ, zero, suc, true, List, [], ◌∷◌, ◌++◌, refl, ap, sym, ◌∙◌, subst}
 use Rattle.std.specs.Prelude.{Option, Some, None}
 use Rattle.std.specs.Option.{option_and_then}
 use Rattle.term_base.specs.declared.variables.Variable.{Variable}
 use Rattle.term_base.specs.declared.places.Side.{Side}
 use Rattle.term_base.specs.declared.places.Side.TheVariants.{Left, Right}
-use Rattle.term_base.specs.Trees.{Head, Tree, Trees, var, node, none, more, occurs}
+use Rattle.term_base.specs.Trees.{Tree, Trees, var, node, none, more, occurs}
 use Rattle.term_base.specs.Substitution.{put_in, put_all}
-use Rattle.term_base.specs.Lits.{Relation, Lit, put_lit, put_clause, lit_occurs, clause_occurs}
+use Rattle.term_base.specs.Lits.{Lit, put_lit, put_clause, lit_occurs, clause_occurs}
 use Rattle.term_base.specs.Places.{named, other, with_side, left_out, changed, item, argument, with_argument, argument_number, child, with_child, at_path, put_at, put_child}
-use Rattle.term_base.specs.TreeLemmas.{or-left, or-right, both_ways}
+use Rattle.term_base.specs.TreeLemmas.{or-left, or-right}
 use Rattle.term_base.specs.SubstLemmas.{put_in-put_in, put_in-agree}
 
 module _ (s : Variable → Tree) where
@@ -89,8 +89,8 @@ module _ (r s q : Variable → Tree) where
   lit_agree l h =
       let a : put_in r (put_in s l.left) ≡ put_in q l.left = put_in-put_in r s l.left ∙ put_in-agree (λ v. put_in r (s v)) q l.left (λ v o. h v (or-left (occurs v l.left) (occurs v l.right) o)) in
       let b : put_in r (put_in s l.right) ≡ put_in q l.right = put_in-put_in r s l.right ∙ put_in-agree (λ v. put_in r (s v)) q l.right (λ v o. h v (or-right (occurs v l.left) (occurs v l.right) o)) in
-      ap (λ (z : Tree). record { relation = l.relation; left = z; right = put_in r (put_in s l.right); }) a
-      ∙ ap (λ (z : Tree). record { relation = l.relation; left = put_in q l.left; right = z; }) b
+      ap (λ (z : Tree). record { relation = l.relation; left = z; right = put_in r (put_in s l.right) }) a
+      ∙ ap (λ (z : Tree). record { relation = l.relation; left = put_in q l.left; right = z }) b
 
   pub clause_agree : (c : List Lit) → ((v : Variable) → clause_occurs v c ≡ true → put_in r (s v) ≡ q v) → put_clause r (put_clause s c) ≡ put_clause q c
   clause_agree [] h = refl

@@ -1,22 +1,22 @@
 -- Substitution on trees: composition, agreement, occurrence, weight and sorts.
-use Rattle.std.proofs.Common.{◌≡◌, ◌⊎◌, inl, inr, ℕ, zero, suc, ◌+◌, ◌<◌, ◌≤◌, Bool, true, false, ◌||◌, ◌&&◌, not, List, [], ◌∷◌, refl, ap, sym, ◌∙◌, subst, arith, if◌then◌else◌}
-use Rattle.std.specs.Prelude.{Some, None, Option}
-use Rattle.std.proofs.lemmas.Grind.{common_steps}
+use Rattle.std.proofs.Common.{◌≡◌, ◌⊎◌, inl, inr, ◌+◌, ◌≤◌, true, false, List, refl, ap, sym, ◌∙◌, arith}
+use Rattle.std.specs.Prelude.{Some}
 use Rattle.term_base.specs.declared.symbols.Symbol.{Symbol}
 use Rattle.term_base.specs.declared.variables.Variable.{Variable}
 use Rattle.term_base.specs.Same.{same_variable}
 use Rattle.term_base.specs.SameLemmas.{same_variable-true, same_variable-refl}
-use Rattle.term_base.specs.Sorting.{have_sorts, sort, sorts, arity, result_sort}
+use Rattle.term_base.specs.Sorting.{sort, sorts}
 use Rattle.term_base.specs.Trees.{Head, Tree, Trees, var, node, none, more, occurs, any_occurs}
-use Rattle.term_base.specs.Substitution.{put_in, put_all, single, Simple}
-use Rattle.term_base.specs.Purity.{IsPure, is_abstraction, foreground, any_foreground, foreground_head, ordinary, any_ordinary}
+use Rattle.term_base.specs.Substitution.{put_in, put_all, single}
+use Rattle.term_base.specs.Purity.{IsPure, foreground, any_foreground, foreground_head, ordinary, any_ordinary}
 use Rattle.term_base.specs.Weight.{weight, weight_all}
 use Rattle.term_base.specs.TreeLemmas.{true_or_false, both_ways, or-true, or-false, or-left, or-right}
 
 pub variable_or_not : (v w : Variable) → (v ≡ w) ⊎ ((v ≡ w) → ⊥)
 variable_or_not v w = elim (true_or_false (same_variable v w)) [
-    inl h ↦ inl (same_variable-true v w h)
-  | inr h ↦ inr (λ e. both_ways (same_variable v w) (ap (same_variable v) (sym e) ∙ same_variable-refl v) h) ]
+  | inl h ↦ inl (same_variable-true v w h)
+  | inr h ↦ inr (λ e. both_ways (same_variable v w) (ap (same_variable v) (sym e) ∙ same_variable-refl v) h)
+]
 
 pub single-same : (v w : Variable) (t : Tree) → v ≡ w → single v t w ≡ t
 single-same v w t e = let h : same_variable v w ≡ true = ap (same_variable v) (sym e) ∙ same_variable-refl v in rw h refl
@@ -66,8 +66,9 @@ module _ (s : Variable → Tree) where
     occurs-put_all : (w : Variable) (xs : Trees) → any_occurs w (put_all s xs) ≡ true → (v : Variable) × ((any_occurs v xs ≡ true) × (occurs w (s v) ≡ true))
     occurs-put_all w none h = absurd (both_ways false h refl)
     occurs-put_all w (more x xs) h = elim (or-true (occurs w (put_in s x)) (any_occurs w (put_all s xs)) h) [
-        inl p ↦ (let o = occurs-put_in w x p in (o.0, (or-left (occurs o.0 x) (any_occurs o.0 xs) o.1.0, o.1.1)))
-      | inr q ↦ (let o = occurs-put_all w xs q in (o.0, (or-right (occurs o.0 x) (any_occurs o.0 xs) o.1.0, o.1.1))) ]
+      | inl p ↦ (let o = occurs-put_in w x p in (o.0, (or-left (occurs o.0 x) (any_occurs o.0 xs) o.1.0, o.1.1)))
+      | inr q ↦ (let o = occurs-put_all w xs q in (o.0, (or-right (occurs o.0 x) (any_occurs o.0 xs) o.1.0, o.1.1)))
+    ]
 
 module _ (s : Variable → Tree) (v : Variable) where
   mutual
@@ -78,8 +79,9 @@ module _ (s : Variable → Tree) (v : Variable) where
     weight_within_all : (xs : Trees) → any_occurs v xs ≡ true → weight (s v) ≤ weight_all (put_all s xs)
     weight_within_all none h = absurd (both_ways false h refl)
     weight_within_all (more x xs) h = elim (or-true (occurs v x) (any_occurs v xs) h) [
-        inl p ↦ (let a = weight_within x p in omega arith)
-      | inr q ↦ (let a = weight_within_all xs q in omega arith) ]
+      | inl p ↦ (let a = weight_within x p in omega arith)
+      | inr q ↦ (let a = weight_within_all xs q in omega arith)
+    ]
 
   -- no substitution makes a variable and a larger term that has it equal
   pub no_cycle : (f : Head) (xs : Trees) → any_occurs v xs ≡ true → s v ≡ put_in s (node f xs) → ⊥
@@ -150,4 +152,4 @@ module _ (signature : List Symbol) (s : Variable → Tree) where
         elim (or-true (occurs v x) (any_occurs v xs) o) [ inl p ↦ inner_ordinary x two.0 v p | inr q ↦ inner_ordinary_all xs two.1 v q ]
 
   pub inner_pure : (t : Tree) → IsPure signature (put_in s t) → (v : Variable) → occurs v t ≡ true → IsPure signature (s v)
-  inner_pure t p v o = record { no_foreground = inner_foreground t p.no_foreground v o; no_ordinary = inner_ordinary t p.no_ordinary v o; }
+  inner_pure t p v o = record { no_foreground = inner_foreground t p.no_foreground v o; no_ordinary = inner_ordinary t p.no_ordinary v o }

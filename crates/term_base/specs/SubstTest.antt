@@ -1,5 +1,5 @@
 -- Whether a list of pairs is a substitution, as a test.
-use Rattle.std.specs.Prelude.{Bool, true, false, ◌&&◌, not, List, [], ◌∷◌, Option, Some, None}
+use Rattle.std.specs.Prelude.{Bool, true, ◌&&◌, not, List, [], ◌∷◌, Option, Some, None}
 use Rattle.std.specs.Ordering.{is_lt}
 use Rattle.term_base.specs.declared.terms.Term.{Term}
 use Rattle.term_base.specs.declared.terms.Term.TheVariants as term

@@ -1,5 +1,5 @@
 -- Induction on trees, and what substitution keeps.
-use Rattle.std.proofs.Common.{◌≡◌, ◌⊎◌, inl, inr, ℕ, Bool, true, false, ◌||◌, ◌&&◌, not, List, refl, ap, sym, ◌∙◌, subst, arith}
+use Rattle.std.proofs.Common.{◌≡◌, ◌⊎◌, inl, inr, Bool, true, false, ◌||◌, ◌&&◌, List, refl, ap, sym, ◌∙◌, subst, arith}
 use Rattle.std.proofs.lemmas.Grind.{common_steps}
 use Rattle.term_base.specs.declared.symbols.Symbol.{Symbol}
 use Rattle.term_base.specs.declared.variables.Variable.{Variable}
@@ -9,7 +9,7 @@ use Rattle.std.proofs.lemmas.Cmp.{int_eq_equiv}
 use Rattle.std.proofs.lemmas.Int.{ints}
 use Rattle.term_base.specs.SameLemmas.{same_variable-true, same_sort-refl, same_kind-refl}
 use Rattle.term_base.specs.Trees.{truth, number, plus, times, symbol, same_head, same_tree, same_trees, Head, Tree, Trees, var, node, none, more, Member}
-use Rattle.term_base.specs.Purity.{foreground_head, foreground, any_foreground, is_abstraction, ordinary, any_ordinary, IsPure}
+use Rattle.term_base.specs.Purity.{foreground_head, foreground, any_foreground, ordinary, any_ordinary, IsPure}
 use Rattle.term_base.specs.Substitution.{put_in, put_all}
 
 module _ (P : Tree → Type 0)
@@ -52,8 +52,9 @@ both_ways a p q = cc
 pub foreground_member : (signature : List Symbol) (xs : Trees) → any_foreground signature xs ≡ true → (x : Tree) × (Member x xs × (foreground signature x ≡ true))
 foreground_member signature none h = absurd (both_ways false h refl)
 foreground_member signature (more x xs) h = elim (or-true (foreground signature x) (any_foreground signature xs) h) [
-    inl p ↦ (x, (inl refl, p))
-  | inr q ↦ let m = foreground_member signature xs q in (m.0, (inr m.1.0, m.1.1)) ]
+  | inl p ↦ (x, (inl refl, p))
+  | inr q ↦ let m = foreground_member signature xs q in (m.0, (inr m.1.0, m.1.1))
+]
 
 pub member_foreground : (signature : List Symbol) (xs : Trees) (x : Tree) → Member x xs → foreground signature x ≡ true → any_foreground signature xs ≡ true
 member_foreground signature none x m h = absurd m
@@ -62,8 +63,9 @@ member_foreground signature (more y ys) x (inr m) h = or-right (foreground signa
 
 member_not_foreground : (signature : List Symbol) (xs : Trees) (x : Tree) → Member x xs → any_foreground signature xs ≡ false → foreground signature x ≡ false
 member_not_foreground signature xs x m h = elim (true_or_false (foreground signature x)) [
-    inl p ↦ absurd (both_ways (any_foreground signature xs) (member_foreground signature xs x m p) h)
-  | inr q ↦ q ]
+  | inl p ↦ absurd (both_ways (any_foreground signature xs) (member_foreground signature xs x m p) h)
+  | inr q ↦ q
+]
 
 member_ordinary : (xs : Trees) (x : Tree) → Member x xs → any_ordinary xs ≡ false → ordinary x ≡ false
 member_ordinary none x m h = absurd m
@@ -92,10 +94,11 @@ pub put-foreground : (signature : List Symbol) (s : Variable → Tree) (t : Tree
 put-foreground signature s = tree_induction (λ t. foreground signature t ≡ true → foreground signature (put_in s t) ≡ true)
     (λ v h. absurd (both_ways false h refl))
     (λ f xs each h. elim (or-true (foreground_head signature f) (any_foreground signature xs) h) [
-        inl p ↦ or-left (foreground_head signature f) (any_foreground signature (put_all s xs)) p
+      | inl p ↦ or-left (foreground_head signature f) (any_foreground signature (put_all s xs)) p
       | inr q ↦ let m = foreground_member signature xs q in
           or-right (foreground_head signature f) (any_foreground signature (put_all s xs))
-            (member_foreground signature (put_all s xs) (put_in s m.0) (member_put s xs m.0 m.1.0) (each m.0 m.1.0 m.1.1)) ])
+          (member_foreground signature (put_all s xs) (put_in s m.0) (member_put s xs m.0 m.1.0) (each m.0 m.1.0 m.1.1))
+    ])
 
 int_eq-true : (m n : ℤ) → int_eq m n ≡ true → m ≡ n
 int_eq-true m n h = grind (arith, ints, common_steps)
@@ -148,8 +151,9 @@ mutual
 -- trees are equal or differ
 pub same_or_not : (s t : Tree) → (s ≡ t) ⊎ ((s ≡ t) → ⊥)
 same_or_not s t = elim (true_or_false (same_tree s t)) [
-    inl h ↦ inl (same_tree-true s t h)
-  | inr h ↦ inr (λ e. both_ways (same_tree s t) (ap (same_tree s) (sym e) ∙ same_tree-refl s) h) ]
+  | inl h ↦ inl (same_tree-true s t h)
+  | inr h ↦ inr (λ e. both_ways (same_tree s t) (ap (same_tree s) (sym e) ∙ same_tree-refl s) h)
+]
 
 pub same_tree-false : (s t : Tree) → ((s ≡ t) → ⊥) → same_tree s t ≡ false
 same_tree-false s t h = elim (true_or_false (same_tree s t)) [ inl p ↦ absurd (h (same_tree-true s t p)) | inr q ↦ q ]

@@ -18,8 +18,8 @@ use Rattle.term_base.specs.VariableOrder.{kind_rank, kind_cmp, sort_rank, declar
 pub variable_cmp_total : IsTotalOrder variable_cmp
 variable_cmp_total =
     then_total (on_total (λ (v : Variable). v.kind) (on_total kind_rank nat_cmp_total))
-        (then_total (on_total (λ (v : Variable). v.sort) (then_total (on_total sort_rank nat_cmp_total) (on_total declared_number nat_cmp_total)))
-            (on_total (λ (v : Variable). v.id) nat_cmp_total))
+    (then_total (on_total (λ (v : Variable). v.sort) (then_total (on_total sort_rank nat_cmp_total) (on_total declared_number nat_cmp_total)))
+    (on_total (λ (v : Variable). v.id) nat_cmp_total))
 
 both_equal : (p q : Ordering) → ordering_then p q ≡ Equal → (p ≡ Equal) × (q ≡ Equal)
 both_equal Equal q h = (refl, h)
@@ -47,9 +47,9 @@ variable_cmp-equal v w h =
     let inner = both_equal (sort_cmp v.sort w.sort) (nat_cmp v.id w.id) outer.1 in
     let sorts = both_equal (nat_cmp (sort_rank v.sort) (sort_rank w.sort)) (nat_cmp (declared_number v.sort) (declared_number w.sort)) inner.0 in
     variables_equal v w
-        (kind_rank-equal v.kind w.kind (nat_cmp-equal (kind_rank v.kind) (kind_rank w.kind) outer.0))
-        (sorts_equal v.sort w.sort (nat_cmp-equal (sort_rank v.sort) (sort_rank w.sort) sorts.0) (nat_cmp-equal (declared_number v.sort) (declared_number w.sort) sorts.1))
-        (nat_cmp-equal v.id w.id inner.1)
+    (kind_rank-equal v.kind w.kind (nat_cmp-equal (kind_rank v.kind) (kind_rank w.kind) outer.0))
+    (sorts_equal v.sort w.sort (nat_cmp-equal (sort_rank v.sort) (sort_rank w.sort) sorts.0) (nat_cmp-equal (declared_number v.sort) (declared_number w.sort) sorts.1))
+    (nat_cmp-equal v.id w.id inner.1)
 
 own_reverse : (o : Ordering) → o ≡ Rattle.std.specs.Ordering.ordering_reverse o → o ≡ Equal
 own_reverse Less h = cc

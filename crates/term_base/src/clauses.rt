@@ -50,11 +50,9 @@ impl Clause {
     pub fn copy(&self, alloc: Global) -> Result<Clause, AllocError>
         ensures { IfOk result (λ c. c ≡ self.now) }
     {
-        let mut literals = Items::new(alloc);
-        for literal in self.literals.as_slice() {
-            literals.push(literal.copy(alloc)?)?;
-        }
-        Ok(Clause { literals })
+        Ok(Clause {
+            literals: copy_literals(alloc, self.literals.as_slice())?,
+        })
     }
 
     /// Whether two clauses have the same literals in the same order.
@@ -75,4 +73,15 @@ impl Clause {
         }
         rest.is_empty()
     }
+}
+
+/// A list of literals that equals these.
+pub fn copy_literals(alloc: Global, literals: &[Literal]) -> Result<Items<Literal>, AllocError>
+    ensures { IfOk result (λ all. all ≡ literals.now) }
+{
+    let mut all = Items::new(alloc);
+    for literal in literals {
+        all.push(literal.copy(alloc)?)?;
+    }
+    Ok(all)
 }

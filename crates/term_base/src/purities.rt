@@ -5,11 +5,15 @@ ghost use Rattle.term_base.specs.Trees.{tree};
 ghost use Rattle.term_base.specs.Lits.{lit, lits};
 ghost use Rattle.term_base.specs.Purity as spec;
 ghost use Rattle.term_base.specs.Clauses as clause;
+ghost use Rattle.term_base.specs.SimpleTest as test;
+ghost use Rattle.term_base.specs.Substitution.{image, Simple};
 
 use crate::clauses::{Clause, Literal};
+use crate::sorting::sort_of;
+use crate::substs::Subst;
 use crate::symbols::{Class, Sort, Symbol};
 use crate::terms::{Purity, Term};
-use crate::variables::Kind;
+use crate::variables::{Kind, Variable};
 
 /// Whether a number is that of a foreground symbol. One past the signature is that of a parameter.
 pub fn is_foreground(signature: &[Symbol], f: u32) -> bool
@@ -125,4 +129,32 @@ pub fn is_background(signature: &[Symbol], c: &Clause) -> bool
         }
     }
     true
+}
+
+fn is_simple_pair(signature: &[Symbol], pair: &(Variable, Term)) -> bool
+    ensures { result ≡ test.is_simple_pair signature.now pair.now }
+{
+    if sort_of(signature, &pair.1) != Some(pair.0.sort) {
+        return false;
+    }
+    pair.0.kind != Kind::Abstraction || purity(signature, &pair.1) == Purity::Pure
+}
+
+fn are_simple_pairs(signature: &[Symbol], pairs: &[(Variable, Term)]) -> bool
+    ensures { result ≡ test.are_simple_pairs signature.now pairs.now }
+{
+    for pair in pairs {
+        if !is_simple_pair(signature, pair) {
+            return false;
+        }
+    }
+    true
+}
+
+/// Whether a substitution is simple: each variable goes to a term of its sort, and each abstraction
+/// variable to a Pure one.
+pub fn is_simple(signature: &[Symbol], s: &Subst) -> bool
+    ensures { IsTrue result ↔ Simple signature.now (image s.now) }
+{
+    are_simple_pairs(signature, s.pairs())
 }

@@ -32,8 +32,9 @@ fn literal_weight(l: &Literal) -> u64
     ensures { result ≡ min (spec.lit_weight (lit l.now)) u64.MAX }
 {
     match l {
-        Literal::Equal(a, b) | Literal::Differ(a, b) | Literal::AtMost(a, b) => term_weight(a)
-            .saturating_add(term_weight(b)),
+        Literal::Equal(a, b) | Literal::Differ(a, b) | Literal::AtMost(a, b) => term_weight(
+            a,
+        ).saturating_add(term_weight(b)),
     }
 }
 

@@ -1,4 +1,4 @@
-use Rattle.std.proofs.Common.{◌≡◌, ◌∙◌, sym}
+use Rattle.std.proofs.Common.{◌∙◌, sym}
 use Rattle.term_base.proofs.Ascending.{test_is_right, right_passes_test}
 use Rattle.term_base.proofs.substs.is_substitution.Goals as goal
 
