@@ -7,6 +7,7 @@ pub mod Places
 pub mod Proper
 pub mod Purity
 pub mod Redundancy
+pub mod Rows
 pub mod Same
 pub mod SameLemmas
 pub mod SameTerm

@@ -29,3 +29,6 @@ pub use symbols::{Class, Sort, Sorts, Symbol, class_of};
 pub use terms::{Purity, Term, copy_all, same_all};
 pub use variables::{Kind, Variable};
 pub use weights::weight;
+
+#[cfg(test)]
+mod tests;
