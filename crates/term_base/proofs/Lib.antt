@@ -1,0 +1,4 @@
+pub mod Ascending
+pub mod DerivedOrder
+pub mod LawLemmas
+pub mod SimpleLemmas

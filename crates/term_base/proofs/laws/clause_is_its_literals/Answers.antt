@@ -1,0 +1,5 @@
+use Rattle.term_base.proofs.LawLemmas.{clause_injective}
+use Rattle.term_base.proofs.laws.clause_is_its_literals.Goals as goal
+
+pub returns : goal.returns
+returns c = clause_injective

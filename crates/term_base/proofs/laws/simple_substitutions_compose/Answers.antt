@@ -1,0 +1,5 @@
+use Rattle.term_base.proofs.LawLemmas.{simple-after}
+use Rattle.term_base.proofs.laws.simple_substitutions_compose.Goals as goal
+
+pub returns : goal.returns
+returns c = simple-after

@@ -1,0 +1,34 @@
+//! Terms, literals, clauses and substitutions over a signature of sorted symbols.
+#![tactic(auto)]
+
+mod applying;
+mod clauses;
+pub mod laws;
+mod names;
+mod places;
+mod placing;
+mod preparation;
+mod purities;
+mod sorting;
+mod substs;
+mod symbols;
+mod terms;
+mod variables;
+mod weights;
+
+pub use applying::{apply, apply_clause, apply_literal};
+pub use clauses::{Clause, Literal, copy_literals};
+pub use names::Name;
+pub use places::{Path, Place, Side};
+pub use placing::{at, child, has_place, place_term, replace_at, side_of};
+pub use preparation::{Prepared, TooMany};
+pub use purities::{has_foreground, is_background, is_foreground, is_simple, purity};
+pub use sorting::{is_well_sorted_term, sort_of, well_sorted};
+pub use substs::Subst;
+pub use symbols::{Class, Sort, Sorts, Symbol, class_of};
+pub use terms::{Purity, Term, copy_all, same_all};
+pub use variables::{Kind, Variable};
+pub use weights::weight;
+
+#[cfg(test)]
+mod tests;
