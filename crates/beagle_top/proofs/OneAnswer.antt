@@ -2,7 +2,8 @@
 use Rattle.std.proofs.Common.{◌≡◌, ℕ, List, [], ◌∷◌, Option, Some, None, inl, inr, refl, sym, ap, subst, ◌∙◌, arith}
 use Rattle.beagle_top.specs.declared.comparisons.Comparison.{Comparison}
 use Rattle.beagle_top.specs.FirstForm.{IsFile, NoneFalse, first_false_from}
-use Rattle.beagle_top.specs.Texts.{refutation}
+use Rattle.beagle_top.specs.Texts.{certificate_text, refutation_by}
+use Rattle.beagle_top.specs.Pools.{closing}
 use Rattle.beagle_top.specs.Answer.{Refutes, IsAnswer, IsDueFor}
 use Rattle.beagle_top.proofs.Statements.{statement_read, blank_no_statement}
 use Rattle.beagle_top.proofs.Files.{same_statement}
@@ -22,7 +23,7 @@ same_first bytes s t x y r q =
     let same : ◌≡◌ {A = Option (ℕ × Comparison)} (Some (r.axiom_number, r.comparison)) (Some (q.axiom_number, q.comparison))
     = sym cs.2 ∙ ap (first_false_from 0) (one_file bytes cs.0 ds.0 cs.1 ds.1) ∙ ds.2 in
     let pair : ◌≡◌ {A = ℕ × Comparison} (r.axiom_number, r.comparison) (q.axiom_number, q.comparison) = cc in
-    (r.status_is ∙ sym q.status_is, r.text_is ∙ ap (λ p. refutation p.0 p.1) pair ∙ sym q.text_is)
+    (r.status_is ∙ sym q.status_is, r.text_is ∙ ap (λ p. refutation_by (certificate_text closing) p.0 p.1) pair ∙ sym q.text_is)
 
 not_both : (bytes : List ℕ) (s : ℕ) (x : List ℕ) → Refutes bytes s x → NoneFalse bytes → ⊥
 not_both bytes s x r none =

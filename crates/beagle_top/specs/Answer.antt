@@ -6,7 +6,7 @@ use Rattle.lin_base.specs.Fact.{Impossible}
 use Rattle.cert_tree.specs.Stands.{Stands}
 use Rattle.beagle_top.specs.Pools.{pool_of, closing}
 use Rattle.beagle_top.specs.FirstForm.{FirstFalse, NoneFalse}
-use Rattle.beagle_top.specs.Texts.{too_long, not_built, refutation}
+use Rattle.beagle_top.specs.Texts.{too_long, not_built, certificate_text, refutation_by}
 
 -- The bytes are refuted by their first axiom that fails: the printed certificate stands for the pool of that axiom's
 -- clause, so no integers make the clause true.
@@ -17,7 +17,7 @@ pub record Refutes (bytes : List ℕ) (status : ℕ) (text : List ℕ) : Type 0 
   pub certified : Stands (pool_of comparison) closing
   pub impossible : Impossible (pool_of comparison)
   pub status_is : status ≡ 0
-  pub text_is : text ≡ refutation axiom_number comparison
+  pub text_is : text ≡ refutation_by (certificate_text closing) axiom_number comparison
 
 -- the most bytes that a problem may have
 abbrev pub input_limit : ℕ

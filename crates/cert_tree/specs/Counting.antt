@@ -1,11 +1,26 @@
--- The parts of a pool and of its facts that the nodes ask for.
-use Rattle.std.specs.Prelude.{ℕ, Bool, not, ◌==◌, ◌&&◌, nat_lt, List}
+-- Lists of numbers, and the pool's parts by number.
+use Rattle.std.specs.Prelude.{ℕ, zero, suc, ℤ, pos, Bool, not, ◌==◌, ◌&&◌, nat_lt, List, [], ◌∷◌}
 use Rattle.std.specs.List.{list_any}
 use Rattle.lin_base.specs.declared.sums.Lin.{Lin}
-use Rattle.lin_base.specs.Sum.{each_unknown}
+use Rattle.lin_base.specs.declared.facts.Fact.{Fact}
+use Rattle.lin_base.specs.Sum.{occurs, each_unknown}
+use Rattle.lin_base.specs.Fact.{sum_of}
+
+abbrev pub count_from : ℕ → ℕ → List ℕ
+count_from i zero = []
+count_from i (suc n) = i ∷ count_from (suc i) n
+
+-- 0 to z - 1, none where z is not positive
+abbrev pub numbers_below : ℤ → List ℕ
+numbers_below (pos n) = count_from 0 n
+numbers_below _ = []
 
 abbrev pub is_one_of : List ℕ → ℕ → Bool
 is_one_of xs x = list_any (λ y. y == x) xs
+
+-- x occurs in a literal of the clause
+abbrev pub occurs_in : ℕ → List Fact → Bool
+occurs_in x clause = list_any (λ f. occurs x (sum_of f)) clause
 
 -- the unknown is a parameter that is not used up
 abbrev pub is_free : ℕ → List ℕ → ℕ → Bool

@@ -1,4 +1,13 @@
 pub mod Counting
+pub mod Points
+pub mod Sides
+pub mod Rows
 pub mod Children
+pub mod Narrow
 pub mod Stands
+pub mod Complete
+pub mod Ground
+pub mod Holds
+pub mod Search
+pub mod Measures
 pub mod Laws

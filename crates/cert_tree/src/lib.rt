@@ -2,9 +2,11 @@
 #![tactic(auto)]
 
 mod certs;
+mod children;
 mod clauses;
 mod laws;
 mod standing;
+mod sums;
 #[cfg(test)]
 mod tests;
 

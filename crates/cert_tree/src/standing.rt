@@ -1,18 +1,20 @@
 //! The check of certificates.
 
-ghost use Rattle.std.specs.Prelude.{◌≡◌, ◌++◌, ◌∷◌, [], IfOk, OnOk, IsTrue, map};
+ghost use Rattle.std.specs.Prelude.{◌≡◌, ◌≤ℤ◌, ◌&&◌, ◌++◌, ◌∷◌, [], pos, length, IfOk, OnOk, IsTrue, map};
 ghost use Rattle.std.specs.List.{list_all};
-ghost use Rattle.lin_base.specs.Fact.{is_fact, is_pool};
-ghost use Rattle.cert_tree.specs.Children.{with_each};
-ghost use Rattle.cert_tree.specs.Stands.{tree_stands, each_stands, stands};
+ghost use Rattle.lin_base.specs.Fact.{is_fact, is_lin, is_pool};
+ghost use Rattle.lin_base.specs.Steps.{is_narrow};
+ghost use Rattle.cert_tree.specs.Children as spec;
+ghost use Rattle.cert_tree.specs.Stands.{tree_stands, each_stands, numbered_stand, stands, residues_stand};
 
 use crate::certs::{Cert, Tree};
-use crate::clauses::{clause_at, fact_at, is_clash, is_open_case};
-use lin_base::{Fact, Pool};
+use crate::children::{branch_facts, combination, cut_at, residue, solve_child};
+use crate::clauses::{clause_at, fact_at, is_open_case, is_over_free, with_used};
+use lin_base::{Fact, Lin, Pool, is_false, is_lin};
 use sqlite_items::Items;
 use std::alloc::{AllocError, Global};
 
-/// Whether a certificate stands for a pool, so that the pool is true at no values. Nothing is assumed of the certificate: numbers of clauses, facts or parameters that aren't there and wrong counts of children make it one that doesn't stand. A certificate with a row or with a node other than Case and Clash stands nowhere.
+/// Whether a certificate stands for a pool, so that the pool is true at no values. Nothing is assumed of the certificate: numbers of clauses, facts or parameters that aren't there, wrong counts of children and sums whose unknowns don't ascend make it one that doesn't stand. A certificate with a row or with a node Least stands nowhere.
 pub fn check_unsat(alloc: Global, pool: &Pool, cert: &Cert) -> Result<bool, AllocError>
     requires { IsTrue (is_pool pool.now) }
     ensures { IfOk result (λ yes. yes ≡ stands pool.now cert.now) }
@@ -55,11 +57,44 @@ fn tree_stands(
             }
             None => Ok(false),
         },
-        Tree::Clash { fact } => match fact_at(facts.as_slice(), *fact) {
-            Some(fact) => Ok(is_clash(fact)),
+        Tree::Combine { list, child } => {
+            match combination(alloc, facts.as_slice(), list.as_slice())? {
+                Some(sum) => {
+                    stands_with(alloc, pool, used, facts, Fact::AtMostZero(sum), child.get())
+                }
+                None => Ok(false),
+            }
+        }
+        Tree::Branch { t, left, right } => match branch_facts(alloc, pool.params, used, t)? {
+            Some((below, above)) => {
+                if !stands_with(alloc, pool, used, facts, below, left.get())? {
+                    return Ok(false);
+                }
+                stands_with(alloc, pool, used, facts, above, right.get())
+            }
             None => Ok(false),
         },
-        _ => Ok(false),
+        Tree::Residues { m, t, children } => {
+            residues_stand(alloc, pool, used, facts, *m, t, children.as_slice())
+        }
+        Tree::Cut { fact, child } => match cut_at(alloc, facts.as_slice(), *fact)? {
+            Some(cut) => stands_with(alloc, pool, used, facts, cut, child.get()),
+            None => Ok(false),
+        },
+        Tree::Solve { fact, p, child } => {
+            match solve_child(alloc, facts.as_slice(), *fact, *p)? {
+                Some(mut made) => {
+                    let used = with_used(alloc, used, *p)?;
+                    tree_stands(alloc, pool, used.as_slice(), &mut made, child.get())
+                }
+                None => Ok(false),
+            }
+        }
+        Tree::Least { .. } => Ok(false),
+        Tree::Clash { fact } => match fact_at(facts.as_slice(), *fact) {
+            Some(fact) => Ok(is_false(fact)),
+            None => Ok(false),
+        },
     }
 }
 
@@ -98,7 +133,7 @@ fn each_stands(
     requires pool_is { IsTrue (is_pool pool.now) }
     requires facts_are { IsTrue (list_all is_fact facts.old) }
     requires literals_are { IsTrue (list_all is_fact literals.now) }
-    ensures answer { IfOk result (λ yes. yes ≡ each_stands used.now (map (tree_stands pool.now.params pool.now.clauses) children.now) (with_each facts.old literals.now)) }
+    ensures answer { IfOk result (λ yes. yes ≡ each_stands used.now (map (tree_stands pool.now.params pool.now.clauses) children.now) (spec.with_each facts.old literals.now)) }
     ensures facts { OnOk result (facts.new ≡ facts.old) }
 {
     let mut rest = literals;
@@ -115,4 +150,58 @@ fn each_stands(
         }
     }
     Ok(rest.is_empty())
+}
+
+/// Whether there are `m` children, `m` at least 2, and each stands with its remainder of `t` modulo `m`, over parameters that aren't used up.
+#[cycle(tree_stands)]
+fn residues_stand(
+    alloc: Global,
+    pool: &Pool,
+    used: &[u32],
+    facts: &mut Items<Fact>,
+    m: i128,
+    t: &Lin,
+    children: &[Tree],
+) -> Result<bool, AllocError>
+    requires pool_is { IsTrue (is_pool pool.now) }
+    requires facts_are { IsTrue (list_all is_fact facts.old) }
+    ensures answer { IfOk result (λ yes. yes ≡ residues_stand pool.now.params m t.now (map (tree_stands pool.now.params pool.now.clauses) children.now) used.now facts.old) }
+    ensures facts { OnOk result (facts.new ≡ facts.old) }
+{
+    if m < 2 || children.len() as i128 != m {
+        return Ok(false);
+    }
+    if !is_lin(t) || !is_over_free(pool.params, used, t) {
+        return Ok(false);
+    }
+    each_residue_stands(alloc, pool, used, facts, m, t, children)
+}
+
+/// Whether child i stands with the fact that `m` divides `t - i`, for each child.
+#[cycle(tree_stands)]
+fn each_residue_stands(
+    alloc: Global,
+    pool: &Pool,
+    used: &[u32],
+    facts: &mut Items<Fact>,
+    m: i128,
+    t: &Lin,
+    children: &[Tree],
+) -> Result<bool, AllocError>
+    requires pool_is { IsTrue (is_pool pool.now) }
+    requires facts_are { IsTrue (list_all is_fact facts.old) }
+    requires m { pos 2 ≤ℤ m }
+    requires t { IsTrue (is_lin t.now) }
+    ensures answer { IfOk result (λ yes. yes ≡ numbered_stand (spec.residue_steps t.now) (spec.residue_child facts.old m t.now) used.now 0 (map (tree_stands pool.now.params pool.now.clauses) children.now)) }
+    ensures facts { OnOk result (facts.new ≡ facts.old) }
+{
+    for (i, child) in children.iter().enumerate() {
+        let Some(fact) = residue(alloc, m, t, i)? else {
+            return Ok(false);
+        };
+        if !stands_with(alloc, pool, used, facts, fact, child)? {
+            return Ok(false);
+        }
+    }
+    Ok(true)
 }

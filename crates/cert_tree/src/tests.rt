@@ -1,52 +1,118 @@
-ghost use Rattle.std.specs.Prelude.{IfOk, IsTrue};
-ghost use Rattle.lin_base.specs.Fact.{is_pool};
-
 use crate::{Cert, Row, Tree, check_unsat};
-use lin_base::{Fact, Lin, Pool};
-use sqlite_items::Items;
+use lin_base::{Fact, Lin, Pool, is_pool};
+use sqlite_items::{Boxed, Items};
 use std::alloc::{AllocError, Global};
 
-/// The pool of the one clause `1 <= 0`.
-fn false_pool(alloc: Global) -> Result<Pool, AllocError>
-    ensures { IfOk result (λ pool. IsTrue (is_pool pool)) }
-{
-    let mut clause = Items::new(alloc);
-    clause.push(Fact::AtMostZero(Lin {
-        coefs: Items::new(alloc),
-        constant: 1,
-    }))?;
-    let mut clauses = Items::new(alloc);
-    clauses.push(clause)?;
-    Ok(Pool { params: 0, clauses })
+fn sum(alloc: Global, coefs: &[(u32, i128)], constant: i128) -> Result<Lin, AllocError> {
+    Ok(Lin {
+        coefs: Items::from_slice(alloc, coefs)?,
+        constant,
+    })
 }
 
-/// A Case of this clause, with a Clash of this fact as its one child.
-fn case_with_clash(alloc: Global, clause: u32, fact: u32) -> Result<Cert, AllocError> {
+/// A pool of clauses of one fact each.
+fn unit_pool(alloc: Global, params: u32, facts: Vec<Fact>) -> Result<Pool, AllocError> {
+    let mut clauses = Items::new(alloc);
+    for fact in facts {
+        let mut clause = Items::new(alloc);
+        clause.push(fact)?;
+        clauses.push(clause)?;
+    }
+    Ok(Pool { params, clauses })
+}
+
+fn case(alloc: Global, clause: u32, child: Tree) -> Result<Tree, AllocError> {
     let mut children = Items::new(alloc);
-    children.push(Tree::Clash { fact })?;
-    Ok(Cert {
-        rows: Items::new(alloc),
-        tree: Tree::Case { clause, children },
+    children.push(child)?;
+    Ok(Tree::Case { clause, children })
+}
+
+fn cut(alloc: Global, fact: u32, child: Tree) -> Result<Tree, AllocError> {
+    Ok(Tree::Cut {
+        fact,
+        child: Boxed::new(alloc, child)?,
     })
+}
+
+fn combine(alloc: Global, list: &[(u32, i128)], child: Tree) -> Result<Tree, AllocError> {
+    Ok(Tree::Combine {
+        list: Items::from_slice(alloc, list)?,
+        child: Boxed::new(alloc, child)?,
+    })
+}
+
+/// A certificate without rows.
+fn of_tree(alloc: Global, tree: Tree) -> Cert {
+    Cert {
+        rows: Items::new(alloc),
+        tree,
+    }
 }
 
 #[test]
 fn checks_a_false_clause(rt: HostRuntime) -> Result<(), AllocError> {
-    let pool = false_pool(rt.alloc())?;
+    let alloc = rt.alloc();
+    let pool = unit_pool(
+        alloc,
+        0,
+        vec![in alloc; Fact::AtMostZero(sum(alloc, &[], 1)?)]?,
+    )?;
+    assert!(rt; is_pool(&pool));
     for (clause, fact, stands) in [(0, 0, true), (1, 0, false), (0, 1, false)] {
-        let cert = case_with_clash(rt.alloc(), clause, fact)?.copy(rt.alloc())?;
+        let cert = of_tree(alloc, case(alloc, clause, Tree::Clash { fact })?).copy(alloc)?;
         assert_eq!(rt;
-            check_unsat(rt.alloc(), &pool, &cert)?,
+            check_unsat(alloc, &pool, &cert)?,
             stands,
             "case {clause}, clash {fact}"
         );
     }
-    let mut cert = case_with_clash(rt.alloc(), 0, 0)?;
+    let mut cert = of_tree(alloc, case(alloc, 0, Tree::Clash { fact: 0 })?);
     cert.rows.push(Row::Low {
         clause: 0,
         x: 0,
         j: 0,
     })?;
-    assert_eq!(rt; check_unsat(rt.alloc(), &pool, &cert)?, false);
+    assert_eq!(rt; check_unsat(alloc, &pool, &cert)?, false);
+    Ok(())
+}
+
+/// `2x = 1` has no integer `x`: both bounds are cut.
+#[test]
+fn checks_cuts_of_an_equation(rt: HostRuntime) -> Result<(), AllocError> {
+    let alloc = rt.alloc();
+    let pool = unit_pool(
+        alloc,
+        1,
+        vec![in alloc; Fact::Zero(sum(alloc, &[(0, 2)], -1)?)]?,
+    )?;
+    assert!(rt; is_pool(&pool));
+    for (fact, stands) in [(1, true), (0, false)] {
+        let clash = combine(alloc, &[(2, 1), (4, 1)], Tree::Clash { fact: 5 })?;
+        let below = combine(alloc, &[(0, -1)], cut(alloc, 3, clash)?)?;
+        let above = combine(alloc, &[(0, 1)], cut(alloc, fact, below)?)?;
+        let cert = of_tree(alloc, case(alloc, 0, above)?);
+        assert_eq!(rt; check_unsat(alloc, &pool, &cert)?, stands, "cut {fact}");
+    }
+    Ok(())
+}
+
+/// `3x - 3y` isn't between 1 and 2.
+#[test]
+fn checks_cuts_of_two_bounds(rt: HostRuntime) -> Result<(), AllocError> {
+    let alloc = rt.alloc();
+    let low = Fact::AtMostZero(sum(alloc, &[(0, -3), (1, 3)], 1)?);
+    let high = Fact::AtMostZero(sum(alloc, &[(0, 3), (1, -3)], -2)?);
+    let pool = unit_pool(alloc, 2, vec![in alloc; low, high]?)?;
+    assert!(rt; is_pool(&pool));
+    for (multiplier, stands) in [(1, true), (2, false), (-1, false)] {
+        let clash = combine(alloc, &[(2, 1), (3, multiplier)], Tree::Clash { fact: 4 })?;
+        let cuts = cut(alloc, 0, cut(alloc, 1, clash)?)?;
+        let cert = of_tree(alloc, case(alloc, 0, case(alloc, 1, cuts)?)?);
+        assert_eq!(rt;
+            check_unsat(alloc, &pool, &cert)?,
+            stands,
+            "times {multiplier}"
+        );
+    }
     Ok(())
 }

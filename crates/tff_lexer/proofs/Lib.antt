@@ -10,4 +10,5 @@ pub mod Scanning
 pub mod ValueLemmas
 pub mod OneKind
 pub mod OneScan
+pub mod TokenTexts
 mod Rows

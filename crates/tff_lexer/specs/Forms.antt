@@ -18,12 +18,15 @@ is_one_of set b = list_any (λ c. c == b) (codes set)
 
 -- ---- bytes
 
+-- 0 to 9
 abbrev pub is_digit : ℕ → Bool
 is_digit b = nat_le 48 b && nat_le b 57
 
+-- a to z
 abbrev pub is_small : ℕ → Bool
 is_small b = nat_le 97 b && nat_le b 122
 
+-- A to Z
 abbrev pub is_capital : ℕ → Bool
 is_capital b = nat_le 65 b && nat_le b 90
 
@@ -69,6 +72,7 @@ is_distinct text = begins "\"" text && closes 34 (drop 1 text)
 
 -- ---- numbers
 
+-- a digit stands in front
 abbrev pub begins_digit : List ℕ → Bool
 begins_digit [] = false
 begins_digit (b ∷ bs) = is_digit b
@@ -123,10 +127,12 @@ is_real text = digits_then is_fraction (unsigned text)
 
 -- ---- signs
 
+-- the signs
 abbrev pub signs : List (List ℕ)
 signs = codes "(" ∷ codes ")" ∷ codes "[" ∷ codes "]" ∷ codes "," ∷ codes "." ∷ codes ":" ∷ codes "~" ∷ codes "&" ∷ codes "|" ∷ codes "=>" ∷ codes "<="
     ∷ codes "<=>" ∷ codes "<~>" ∷ codes "~&" ∷ codes "~|" ∷ codes "!" ∷ codes "?" ∷ codes "=" ∷ codes "!=" ∷ codes "*" ∷ codes ">" ∷ codes "!>" ∷ []
 
+-- the text is one of them
 abbrev pub is_sign : List ℕ → Bool
 is_sign text = list_any (λ sign. pointwise nat_eq sign text) signs
 

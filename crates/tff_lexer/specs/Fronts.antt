@@ -1,4 +1,4 @@
--- Fronts: the first bytes of a text.
+-- Fronts: the first bytes of a text. Private contracts alone cite this file.
 use Rattle.std.specs.Prelude.{ℕ, zero, suc, ◌+◌, ◌<◌, ◌≤◌, ◌==◌, ◌||◌, Bool, IsTrue, List, [], ◌∷◌, length, take, Option, Some, None, if◌then◌else◌}
 use Rattle.tff_lexer.specs.declared.spans.TokenKind.{TokenKind}
 use Rattle.tff_lexer.specs.declared.spans.TokenKind.TheVariants.{Lower, Upper, Dollar, Quoted, Distinct, Numeral, Sign}
@@ -31,6 +31,7 @@ kind_at b =
     else if is_digit b || is_one_of "+-" b then Numeral
     else Sign
 
+-- the same of the byte in front of a text
 abbrev pub front_kind : List ℕ → TokenKind
 front_kind [] = Sign
 front_kind (b ∷ bs) = kind_at b

@@ -1,5 +1,5 @@
 -- The tokens of a text, each longest, and where no token begins.
-use Rattle.std.specs.Prelude.{◌≡◌, ℕ, ◌+◌, ◌-◌, ◌<◌, ◌≤◌, IsTrue, List, [], ◌∷◌, length, take, drop, Option, Some, None}
+use Rattle.std.specs.Prelude.{◌≡◌, ℕ, ◌+◌, ◌-◌, ◌<◌, ◌≤◌, IsTrue, List, [], ◌∷◌, length, take, drop, Option, Some, None, ⊤}
 use Rattle.tff_lexer.specs.declared.spans.TokenKind.{TokenKind}
 use Rattle.tff_lexer.specs.declared.spans.Token.{Token}
 use Rattle.tff_lexer.specs.Forms.{is_token}
@@ -42,5 +42,10 @@ Scans bytes tokens stop = ScansAt (gap bytes) (skip bytes) tokens stop
 
 -- the spans from byte `from` on: none is empty, none begins before the last one's end, none passes the end of the text
 abbrev pub SpansAscend : ℕ → ℕ → List Token → Type 0
-SpansAscend length from [] = from ≤ length
-SpansAscend length from (t ∷ ts) = (from ≤ t.start) × (t.start < t.end) × SpansAscend length t.end ts
+SpansAscend total from [] = from ≤ total
+SpansAscend total from (t ∷ ts) = (from ≤ t.start) × (t.start < t.end) × SpansAscend total t.end ts
+
+-- each token's bytes are a token of its kind
+abbrev pub HaveForms : List ℕ → List Token → Type 0
+HaveForms bytes [] = ⊤
+HaveForms bytes (t ∷ ts) = IsTrue (is_token t.kind (take (size t) (drop t.start bytes))) × HaveForms bytes ts

@@ -2,6 +2,7 @@
 use Rattle.std.specs.Prelude.{ℕ, zero, suc, ◌-◌, Bool, ◌||◌, ◌==◌, List, [], ◌∷◌, length, drop, Option, Some, None, if◌then◌else◌}
 use Rattle.tff_lexer.specs.Forms.{begins}
 
+-- the white bytes
 abbrev pub is_white : ℕ → Bool
 is_white b = b == 9 || b == 10 || b == 13 || b == 32
 
@@ -24,6 +25,7 @@ after_space (b ∷ bs) =
     else if begins "/*" (b ∷ bs) then after_comment (drop 1 bs)
     else None
 
+-- goes on behind a white byte or a comment, and stops where there is none
 abbrev pub skip_on : (List ℕ → List ℕ) → List ℕ → Option (List ℕ) → List ℕ
 skip_on again bytes (Some rest) = again rest
 skip_on again bytes None = bytes

@@ -3,7 +3,7 @@ ghost use Rattle.std.specs.Prelude.{◌≡◌, ℕ, List, Option, IsTrue};
 ghost use Rattle.tff_lexer.specs.declared.spans.Token.{Token};
 ghost use Rattle.tff_lexer.specs.declared.spans.TokenKind.{TokenKind};
 ghost use Rattle.tff_lexer.specs.Forms.{is_token};
-ghost use Rattle.tff_lexer.specs.Scans.{Scans};
+ghost use Rattle.tff_lexer.specs.Scans.{Scans, HaveForms};
 
 /// A text is a token of at most one kind.
 pub fn one_kind()
@@ -15,4 +15,10 @@ pub fn one_kind()
 pub fn one_scan()
     ensures { (bytes : List ℕ) (first second : List Token) (stop other : Option ℕ)
         → Scans bytes first stop → Scans bytes second other → (first ≡ second) × (stop ≡ other) }
+{}
+
+/// Each token's bytes are a token of its kind.
+pub fn token_texts()
+    ensures { (bytes : List ℕ) (tokens : List Token) (stop : Option ℕ)
+        → Scans bytes tokens stop → HaveForms bytes tokens }
 {}

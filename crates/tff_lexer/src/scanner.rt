@@ -1,5 +1,5 @@
 //! The scan of a text.
-ghost use Rattle.std.specs.Prelude.{◌≡◌, IfOk, length};
+ghost use Rattle.std.specs.Prelude.{◌≡◌, ◌<◌, IfOk, IfSome, length};
 ghost use Rattle.tff_lexer.specs.Fronts.{front_kind, kind_at, token_of};
 ghost use Rattle.tff_lexer.specs.Scans.{BeginsNone, FirstToken, Scans, SpansAscend, StopsAt};
 
@@ -55,7 +55,8 @@ fn first_token(text: &[u8]) -> Option<(TokenKind, usize)>
 /// The place, where something is left there.
 fn stop_at(at: u64, rest: &[u8]) -> Option<u64>
     requires { BeginsNone rest.now }
-    ensures { StopsAt at rest.now result }
+    ensures stops { StopsAt at rest.now result }
+    ensures within { IfSome result (λ place. (place ≡ at) × (0 < length rest.now)) }
 {
     if rest.is_empty() { None } else { Some(at) }
 }
@@ -65,6 +66,7 @@ fn stop_at(at: u64, rest: &[u8]) -> Option<u64>
 pub fn tokens(alloc: Global, bytes: &[u8]) -> Result<Scan, AllocError>
     ensures scan { IfOk result (λ scan. Scans bytes.now scan.tokens.items scan.stop) }
     ensures spans { IfOk result (λ scan. SpansAscend (length bytes.now) 0 scan.tokens.items) }
+    ensures stop { IfOk result (λ scan. IfSome scan.stop (λ place. place < length bytes.now)) }
 {
     let mut tokens = Vec::new(alloc);
     let mut rest = skip_space(bytes);

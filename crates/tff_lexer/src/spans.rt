@@ -9,9 +9,9 @@ pub enum TokenKind {
     Upper,
     /// `$` or `$$`, then a lower word.
     Dollar,
-    /// Something between `'` and `'`.
+    /// `'`, then one or more of: a byte 32 to 126 other than `'` and `\`, or `\'`, or `\\`; then `'`.
     Quoted,
-    /// Something or nothing between `"` and `"`.
+    /// The same with `"`, with zero or more in between.
     Distinct,
     /// Digits, with `+` or `-` in front or not.
     Numeral,
@@ -19,21 +19,26 @@ pub enum TokenKind {
     Rational,
     /// A numeral, then `.` and digits, or an exponent, or both.
     Real,
-    /// A sign of punctuation or a connective.
+    /// One of `( ) [ ] , . : ~ & | => <= <=> <~> ~& ~| ! ? = != * > !>`.
     Sign,
 }
 
 /// A token: its kind, and the place of its first byte and of the byte behind its last, counted from 0.
 #[derive(Clone, Copy, Debug, PartialEq, Eq)]
 pub struct Token {
+    /// Its kind.
     pub kind: TokenKind,
+    /// The place of its first byte.
     pub start: u64,
+    /// The place behind its last byte.
     pub end: u64,
 }
 
 /// The tokens of a text in order, and the first byte at which no token begins: None where the text was read to its end.
 #[derive(Debug, Drop)]
 pub struct Scan {
+    /// The tokens, by place.
     pub tokens: Vec<Token>,
+    /// The place at which no token begins.
     pub stop: Option<u64>,
 }

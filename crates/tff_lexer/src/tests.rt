@@ -46,7 +46,7 @@ fn picture(alloc: Global, text: &[u8]) -> Result<Vec<u8>, AllocError> {
 
 #[test]
 fn corners(rt: HostRuntime) {
-    let rows: [(&[u8], &[u8]); 44] = [
+    let rows: [(&[u8], &[u8]); 46] = [
         (b"", b""),
         (b"tff(a,axiom,'p", b"LllSLSLllllS##"),
         (b"f(X,Y_1):$int", b"LSUSUuuSSDddd"),
@@ -70,6 +70,8 @@ fn corners(rt: HostRuntime) {
         (b"1e", b"NL"),
         (b"1e+", b"NL#"),
         (b"1.e5", b"NSLl"),
+        (b"1.e", b"NSL"),
+        (b"a \xc3\xa9", b"L ##"),
         (b"1.5e", b"EeeL"),
         (b"1/2", b"Rrr"),
         (b"-1/2/3", b"Rrrr##"),

@@ -16,7 +16,7 @@ loop-kind-preserved c =
     scans_next c.args.bytes.now rest next.result.now c.loop-kind.tokens.items c.push.new.self.items c.in-Some.kind c.in-Some.length c.loop-kind.invariant c.in-Some.ensures (next.ensures.rest ∙ ap skip behind) within c.in_ok-push.ensures.items
 
 pub returns-clause-scan : goal.returns-clause-scan
-returns-clause-scan c = scans_end c.args.bytes.now c.loop-kind.rest.now c.loop-kind.tokens.items c.stop_at-stop.result c.loop-kind.invariant c.stop_at-stop.ensures
+returns-clause-scan c = scans_end c.args.bytes.now c.loop-kind.rest.now c.loop-kind.tokens.items c.stop_at-stop.result c.loop-kind.invariant c.stop_at-stop.ensures.stops
 
 pub returns-clause-spans : goal.returns-clause-spans
 returns-clause-spans c = spans_end c.args.bytes.now c.loop-kind.rest.now c.loop-kind.tokens.items c.loop-kind.invariant

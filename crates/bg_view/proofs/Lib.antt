@@ -1,0 +1,12 @@
+pub mod Agreement
+pub mod Ascending
+pub mod Clauses
+pub mod Consequences
+pub mod Distinct
+pub mod Each
+pub mod Forming
+pub mod LinearForms
+pub mod Meaning
+pub mod Noting
+pub mod Places
+pub mod PoolMeaning

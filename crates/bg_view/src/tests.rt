@@ -1,0 +1,157 @@
+//! Small views.
+
+use crate::*;
+use lin_base::{Fact, Lin, Op, Wide};
+use sqlite_items::Items;
+use std::alloc::{AllocError, Global};
+use std::test::Fail;
+use term_base::{Clause, Literal, Term, Variable};
+
+// the parameter of a symbol number
+fn s(alloc: Global, number: u32) -> Term {
+    Term::App(number, Items::new(alloc))
+}
+
+// an abstraction variable
+fn a(id: u32) -> Term {
+    Term::Var(Variable::abstraction(id))
+}
+
+fn unit(alloc: Global, literal: Literal) -> Result<Clause, AllocError> {
+    let mut literals = Items::new(alloc);
+    literals.push(literal)?;
+    Ok(Clause { literals })
+}
+
+fn view_of(alloc: Global, literal: Literal) -> Result<Viewed, ViewError> {
+    let mut clauses = Items::new(alloc);
+    clauses.push(unit(alloc, literal)?)?;
+    if !are_background(&[], clauses.as_slice()) {
+        return Err(ViewError::Memory);
+    }
+    view(alloc, &[], clauses.as_slice())
+}
+
+fn entail_view_of(alloc: Global, clauses: &[Clause], target: &Clause) -> Result<Viewed, ViewError> {
+    if !are_background(&[], clauses) || !is_background_clause(&[], target) {
+        return Err(ViewError::Memory);
+    }
+    entail_view(alloc, &[], clauses, target)
+}
+
+fn is_sum(t: &Lin, terms: &[(u32, i128)], constant: i128) -> bool {
+    t.coefs.as_slice() == terms && t.constant == constant
+}
+
+// the clause is `t <= 0`
+fn is_at_most(clause: &Items<Fact>, terms: &[(u32, i128)], constant: i128) -> bool {
+    match clause.as_slice() {
+        [Fact::AtMostZero(t)] => is_sum(t, terms, constant),
+        _ => false,
+    }
+}
+
+// s0 <= 1 | s0 = 5
+fn low_or_five(alloc: Global) -> Result<Clause, AllocError> {
+    let mut literals = Items::new(alloc);
+    literals.push(Literal::AtMost(s(alloc, 0), Term::Num(1)))?;
+    literals.push(Literal::Equal(s(alloc, 0), Term::Num(5)))?;
+    Ok(Clause { literals })
+}
+
+// -u0 + 2 <= 0; u0 - 4 <= 0 or -u0 + 6 <= 0
+fn is_high_without_five(viewed: &Viewed) -> bool {
+    let [first, second] = viewed.pool.clauses.as_slice() else {
+        return false;
+    };
+    let [Fact::AtMostZero(below), Fact::AtMostZero(above)] = second.as_slice() else {
+        return false;
+    };
+    is_at_most(first, &[(0, -1)], 2) && is_sum(below, &[(0, 1)], -4) && is_sum(above, &[(0, -1)], 6)
+}
+
+#[test]
+fn a_negated_target(rt: HostRuntime) -> Result<(), Fail> {
+    let target = low_or_five(rt.alloc())?;
+    let Ok(viewed) = entail_view_of(rt.alloc(), &[], &target) else {
+        panic!(rt; "no view");
+    };
+    assert!(rt; viewed.symbols.as_slice() == [0].as_slice() && viewed.pool.params == 1);
+    assert!(rt; is_high_without_five(&viewed));
+    Ok(())
+}
+
+// -u0 + u3 <= 0; u1 - u2 + 1 <= 0
+fn is_numbered(viewed: &Viewed) -> bool {
+    match viewed.pool.clauses.as_slice() {
+        [first, second] => is_at_most(first, &[(0, -1), (3, 1)], 0)
+            && is_at_most(second, &[(1, 1), (2, -1)], 1),
+        _ => false,
+    }
+}
+
+// A0 <= s7 without A5 <= s9
+fn numbered(alloc: Global) -> Result<Viewed, ViewError> {
+    let mut clauses = Items::new(alloc);
+    clauses.push(unit(alloc, Literal::AtMost(a(0), s(alloc, 7)))?)?;
+    let target = unit(alloc, Literal::AtMost(a(5), s(alloc, 9)))?;
+    entail_view_of(alloc, clauses.as_slice(), &target)
+}
+
+#[test]
+fn variables_of_a_target_are_parameters(rt: HostRuntime) {
+    let Ok(viewed) = numbered(rt.alloc()) else {
+        panic!(rt; "no view");
+    };
+    assert!(rt; viewed.symbols.as_slice() == [7, 9].as_slice() && viewed.pool.params == 3);
+    assert!(rt; is_numbered(&viewed));
+}
+
+#[test]
+fn a_variable_comes_after_the_parameters(rt: HostRuntime) {
+    let Ok(viewed) = view_of(rt.alloc(), Literal::AtMost(a(0), s(rt.alloc(), 0))) else {
+        panic!(rt; "no view");
+    };
+    let [clause] = viewed.pool.clauses.as_slice() else {
+        panic!(rt; "no unit clause");
+    };
+    assert!(rt; viewed.symbols.as_slice() == [0].as_slice() && viewed.pool.params == 1);
+    assert!(rt; is_at_most(clause, &[(0, -1), (1, 1)], 0));
+}
+
+#[test]
+fn a_false_literal(rt: HostRuntime) {
+    let Ok(viewed) = view_of(rt.alloc(), Literal::Differ(Term::True, Term::True)) else {
+        panic!(rt; "no view");
+    };
+    let [clause] = viewed.pool.clauses.as_slice() else {
+        panic!(rt; "no unit clause");
+    };
+    assert!(rt; viewed.symbols.is_empty() && is_at_most(clause, &[], 1));
+}
+
+fn is_past(viewed: &Result<Viewed, ViewError>) -> bool {
+    let past = Wide {
+        op: Op::Add,
+        left: i128::MAX,
+        right: 1,
+    };
+    match viewed {
+        Err(ViewError::Wide(at)) => at.clause == 0 && at.wide == past,
+        _ => false,
+    }
+}
+
+// (2^127 - 1 + 1) <= -1
+fn past_the_range(alloc: Global) -> Result<Viewed, ViewError> {
+    let left = Term::sum(alloc, Term::Num(i128::MAX), Term::Num(1))?;
+    view_of(alloc, Literal::AtMost(left, Term::Num(-1)))
+}
+
+#[test]
+fn sums_past_the_range(rt: HostRuntime) {
+    assert!(rt; is_past(&past_the_range(rt.alloc())));
+    // Linear of s0 != 2^127 - 1 stays in the range, and its second fact doesn't
+    let apart = Literal::Differ(s(rt.alloc(), 0), Term::Num(i128::MAX));
+    assert!(rt; is_past(&view_of(rt.alloc(), apart)));
+}

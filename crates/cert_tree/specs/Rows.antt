@@ -1,0 +1,66 @@
+-- The rows Inst and Low.
+use Rattle.std.specs.Prelude.{ℕ, pos, Bool, false, not, ◌==◌, ◌&&◌, ◌||◌, nat_lt, nat_le, int_le, List, ◌++◌, map, Option, Some, None, slice_get, if◌then◌else◌}
+use Rattle.std.specs.List.{filter, list_any}
+use Rattle.lin_base.specs.declared.facts.Fact.{Fact}
+use Rattle.lin_base.specs.declared.facts.Fact.TheVariants.{AtMostZero, Zero}
+use Rattle.lin_base.specs.declared.wides.Wide.{Wide}
+use Rattle.lin_base.specs.Whole.{is_positive, is_zero}
+use Rattle.lin_base.specs.Sum.{coef, each_unknown, number}
+use Rattle.lin_base.specs.Fact.{is_lin}
+use Rattle.lin_base.specs.Change.{replace}
+use Rattle.lin_base.specs.Steps.{replace_all_steps, is_narrow}
+use Rattle.cert_tree.specs.declared.certs.Row.{Row}
+use Rattle.cert_tree.specs.declared.certs.Row.TheVariants.{Inst, Low}
+use Rattle.cert_tree.specs.Counting.{occurs_in}
+use Rattle.cert_tree.specs.Points.{not_divides_part}
+
+abbrev pub is_variable_of : ℕ → ℕ → List Fact → Bool
+is_variable_of params x clause = nat_le params x && occurs_in x clause
+
+-- a parameter, or another variable of the clause than x
+abbrev pub may_stand_for : ℕ → ℕ → List Fact → ℕ → Bool
+may_stand_for params x clause y = nat_lt y params || not (y == x) && occurs_in y clause
+
+-- an AtMostZero literal with a positive coefficient at x
+abbrev pub bounds_above : ℕ → Fact → Bool
+bounds_above x (AtMostZero t) = is_positive (coef x t)
+bounds_above x _ = false
+
+-- an AtMostZero or Zero literal with x
+abbrev pub falls_out : ℕ → Fact → Bool
+falls_out x (AtMostZero t) = not (is_zero (coef x t))
+falls_out x (Zero t) = not (is_zero (coef x t))
+falls_out x _ = false
+
+abbrev pub stays_in : ℕ → List Fact → List Fact
+stays_in x clause = filter (λ f. not (falls_out x f)) clause
+
+-- the clause's number
+abbrev pub clause_of : Row → ℕ
+clause_of (Inst n x a t) = n
+clause_of (Low n x j) = n
+
+abbrev pub row_is_allowed : ℕ → List Fact → Row → Bool
+row_is_allowed params clause (Inst n x a t) =
+    is_variable_of params x clause && int_le (pos 1) a && is_lin t && each_unknown (may_stand_for params x clause) t
+row_is_allowed params clause (Low n x j) = is_variable_of params x clause && not (list_any (bounds_above x) clause)
+
+-- the clause that the row gives
+abbrev pub row_clause : List Fact → Row → List Fact
+row_clause clause (Inst n x a t) = not_divides_part a t ++ map (replace x a t) clause
+row_clause clause (Low n x j) = map (replace x (pos 1) (number j)) (stays_in x clause)
+
+abbrev pub row_steps : List Fact → Row → List Wide
+row_steps clause (Inst n x a t) = replace_all_steps x a t clause
+row_steps clause (Low n x j) = replace_all_steps x (pos 1) (number j) (stays_in x clause)
+
+abbrev pub row_stands_on : ℕ → List Fact → Row → Bool
+row_stands_on params clause row = row_is_allowed params clause row && is_narrow (row_steps clause row)
+
+-- the clause that the row gives over these clauses, where it stands
+abbrev pub row_on : ℕ → Row → Option (List Fact) → Option (List Fact)
+row_on params row None = None
+row_on params row (Some clause) = if row_stands_on params clause row then Some (row_clause clause row) else None
+
+abbrev pub row_over : ℕ → List (List Fact) → Row → Option (List Fact)
+row_over params clauses row = row_on params row (slice_get clauses (clause_of row))
