@@ -43,7 +43,7 @@ pub record TakenWhole (status : ℕ) (text : List ℕ) (before after : Option (L
   pub status_is : ended ≡ status
   pub taken : Appends before after text
 
--- the sink failed after it had taken a front of the text
+-- the sink failed after it had taken a prefix of the text
 pub record CutOff (text : List ℕ) (before after : Option (List ℕ)) (ended : ℕ) : Type 0 where
   pub status_is : ended ≡ 6
   pub count : ℕ

@@ -61,7 +61,7 @@ fn answered<K: Sink>(alloc: Global, bytes: &[u8], sink: &mut K) -> Ended
 ///
 /// The status is `PROVED`, `REFUSED` or `USAGE` where the sink took the whole text; `READ_FAULT` where the source
 /// failed and `MEMORY` where memory ran out, with nothing written; and `WRITE_FAULT` where the sink failed, with a
-/// front of the text written.
+/// prefix of the text written.
 pub fn beagle<S: Source, K: Sink>(
     alloc: Global,
     words: &[String],

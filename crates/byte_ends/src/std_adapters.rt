@@ -91,7 +91,7 @@ impl<W: Write> Sink for StdSink<W> {
         // It gives the piece to the writer, and counts the writer's failures.
         ensures passes_on { IfOk result (λ n. Appends (W.contents (sink_writer self.old))
             (W.contents (sink_writer self.new)) (take n from.now)) }
-        ensures front { OnErr result ((n : ℕ) × Appends (W.contents (sink_writer self.old))
+        ensures prefix { OnErr result ((n : ℕ) × Appends (W.contents (sink_writer self.old))
             (W.contents (sink_writer self.new)) (take n from.now)) }
         ensures ok { OnOk result (sink_faults self.new ≡ sink_faults self.old) }
         ensures err { OnErr result (sink_faults self.new ≡ counted (sink_faults self.old)) }
@@ -112,7 +112,7 @@ fn write_through<W: Write>(writer: &mut W, from: &[u8]) -> Option<usize>
     ensures count { IfSome result (λ n. n ≤ length from.now) }
     ensures progress { IfSome result (λ n. 0 < length from.now → 0 < n) }
     ensures bytes { IfSome result (λ n. Appends (W.contents writer.old) (W.contents writer.new) (take n from.now)) }
-    ensures front { IfNone result ((n : ℕ) × Appends (W.contents writer.old) (W.contents writer.new) (take n from.now)) }
+    ensures prefix { IfNone result ((n : ℕ) × Appends (W.contents writer.old) (W.contents writer.new) (take n from.now)) }
 {
     let n = writer.write(from).ok()?;
     if n == 0 && !from.is_empty() {

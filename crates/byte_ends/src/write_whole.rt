@@ -6,7 +6,7 @@ ghost use Rattle.byte_ends.specs.Faults.{Rose};
 use crate::{Failed, Sink};
 
 /// Writes all the bytes, in as many calls as the sink asks for, and none for no bytes.
-/// After a failure the sink has taken a front of them.
+/// After a failure the sink has taken a prefix of them.
 pub fn put_all<K: Sink>(sink: &mut K, bytes: &[u8]) -> Result<(), Failed>
     ensures ok { OnOk result (Appends (K.holds sink.old) (K.holds sink.new) bytes.now) }
     ensures err { OnErr result ((n : ℕ) × (n < length bytes.now)
