@@ -4,6 +4,8 @@ pub mod Truth
 pub mod Divisors
 pub mod Tightening
 pub mod Combine
+pub mod ReplacedValues
+pub mod Quotients
 pub mod Rows
 pub mod Forming
 pub mod Scaling

@@ -1,8 +1,8 @@
 -- The sum that a combination of sums forms: each is multiplied by its number and added to the sum so far, which starts with 0.
-use Rattle.std.specs.Prelude.{ℤ, pos, List, [], ◌∷◌, ◌++◌}
+use Rattle.std.specs.Prelude.{ℤ, pos, ◌+ℤ◌, ◌*ℤ◌, ◌≤ℤ◌, List, [], ◌∷◌, ◌++◌}
 use Rattle.lin_base.specs.declared.sums.Lin.{Lin}
 use Rattle.lin_base.specs.declared.wides.Wide.{Wide}
-use Rattle.lin_base.specs.Sum.{add, scale, number}
+use Rattle.lin_base.specs.Sum.{Valuation, value, add, scale, number}
 use Rattle.lin_base.specs.Steps.{add_steps, scale_steps}
 
 -- the sum so far and k times t
@@ -30,3 +30,13 @@ combined_onto_steps so_far ((t, k) ∷ rest) = add_scaled_steps so_far k t ++ co
 -- of all parts, beginning with 0
 abbrev pub combined_steps : List (Lin × ℤ) → List Wide
 combined_steps parts = combined_onto_steps (number (pos 0)) parts
+
+-- ---- the value
+-- the sum of k times each value
+abbrev pub total : Valuation → List (Lin × ℤ) → ℤ
+total v [] = pos 0
+total v ((t, k) ∷ rest) = k *ℤ value v t +ℤ total v rest
+
+-- k times the value is at most 0
+abbrev pub IsSmall : Valuation → Lin × ℤ → Type 0
+IsSmall v e = (e.1 *ℤ value v e.0) ≤ℤ pos 0

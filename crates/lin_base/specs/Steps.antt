@@ -57,6 +57,7 @@ abbrev pub Forms : {A : Type 0} → Result A ArithmeticError → List Wide → A
 Forms r steps a = IfOk r (λ v. (first_wide steps ≡ None) × (v ≡ a)) × IfErr r (λ e. IsErrorAt e (first_wide steps))
 
 -- ---- the orders
+-- k is added to the coefficient at x, where there is one
 abbrev pub add_term_steps : ℕ → ℤ → Terms → List Wide
 add_term_steps x k [] = []
 add_term_steps x k ((y, l) ∷ ts) = if y == x then adds k l ∷ [] else add_term_steps x k ts

@@ -21,6 +21,7 @@ abbrev pub is_reduced : Terms → Bool
 is_reduced ts = list_all (λ e. not (is_zero e.1)) ts
 
 -- ---- the value
+-- the sum of the coefficients times the values of their unknowns
 abbrev pub value_of_terms : Valuation → Terms → ℤ
 value_of_terms v [] = pos 0
 value_of_terms v ((x, k) ∷ ts) = k *ℤ v x +ℤ value_of_terms v ts
@@ -52,6 +53,7 @@ abbrev pub each_unknown : (ℕ → Bool) → Lin → Bool
 each_unknown test t = list_all (λ e. test e.0) t.coefs
 
 -- ---- what is formed of sums
+-- the sum without unknown that is c
 abbrev pub number : ℤ → Lin
 number c = record { coefs = []; constant = c }
 
