@@ -1,5 +1,5 @@
 -- What `skip` passes over are blanks, and all that the text begins with.
-use Rattle.std.proofs.Common.{◌≡◌, ◌≢◌, ◌⊎◌, inl, inr, ℕ, zero, suc, ◌+◌, ◌<◌, ◌≤◌, Bool, true, false, not, ◌==◌, ◌||◌, ◌&&◌, nat_eq, List, [], ◌∷◌, ◌++◌, length, drop, get_or, Option, Some, None, refl, sym, ap, ◌∙◌, subst, arith, codes, length-append, append_assoc, append-nil}
+use Rattle.std.proofs.Common.{◌≡◌, ◌⊎◌, inl, inr, ℕ, zero, suc, ◌<◌, ◌≤◌, true, false, not, ◌==◌, ◌&&◌, nat_eq, List, [], ◌∷◌, ◌++◌, length, drop, get_or, Option, Some, None, refl, sym, ap, ◌∙◌, subst, arith, codes, length-append, append_assoc, append-nil}
 use Rattle.std.specs.List.{concat, starts_with}
 use Rattle.std.proofs.lemmas.Bool.{false≢true, and_parts, and_from, eqb-true, not-true, false_from_ne_true, cond_both}
 use Rattle.std.proofs.lemmas.Option.{none-some, same_Some}
