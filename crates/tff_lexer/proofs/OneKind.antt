@@ -4,8 +4,8 @@ use Rattle.std.specs.List.{list_all}
 use Rattle.std.proofs.lemmas.Bool.{false≢true, and_parts, or_cases, eqb-true}
 use Rattle.tff_lexer.specs.declared.spans.TokenKind.{TokenKind}
 use Rattle.tff_lexer.specs.declared.spans.TokenKind.TheVariants.{Lower, Upper, Dollar, Quoted, Distinct, Numeral, Rational, Real, Sign}
-use Rattle.tff_lexer.specs.Forms.{is_one_of, is_digit, are_digits, begins_digit, unsigned, after_digits, digits_then, may_be_exponent, is_numeral, is_over, is_exponent, is_fraction, is_token}
-use Rattle.tff_lexer.specs.Fronts.{front_kind}
+use Rattle.tff_lexer.specs.Forms.{is_one_of, is_digit, are_digits, begins_with_digit, unsigned, after_digits, digits_then, is_exponent_or_empty, is_numeral, is_slash_digits, is_exponent, is_fraction_or_exponent, is_token}
+use Rattle.tff_lexer.specs.Prefixes.{kind_by_first_byte}
 use Rattle.tff_lexer.proofs.FirstBytes.{no_empty, token_first}
 
 -- the kind of a number, by what follows its digits
@@ -32,16 +32,16 @@ after_all [] h = refl
 after_all (b ∷ bs) h = let parts = and_parts (is_digit b) (list_all is_digit bs) h in rw parts.0 (after_all bs parts.1)
 
 tail_numeral : (text : List ℕ) → is_numeral text ≡ true → tail text ≡ Numeral
-tail_numeral text h = ap tail_kind (after_all (unsigned text) (and_parts (begins_digit (unsigned text)) (list_all is_digit (unsigned text)) h).1)
+tail_numeral text h = ap tail_kind (after_all (unsigned text) (and_parts (begins_with_digit (unsigned text)) (list_all is_digit (unsigned text)) h).1)
 
-over_kind : (a : List ℕ) → is_over a ≡ true → tail_kind a ≡ Rational
-over_kind [] h = absurd (false≢true h)
-over_kind (b ∷ bs) h =
+slash_digits_kind : (a : List ℕ) → is_slash_digits a ≡ true → tail_kind a ≡ Rational
+slash_digits_kind [] h = absurd (false≢true h)
+slash_digits_kind (b ∷ bs) h =
     let e : 47 ≡ b = eqb-true 47 b (and_parts (nat_eq 47 b) true (and_parts (nat_eq 47 b && true) (are_digits bs) h).0).0 in
     subst (λ c. tail_kind (c ∷ bs) ≡ Rational) e refl
 
-mark_kind : (b : ℕ) (bs : List ℕ) → is_one_of "eE" b ≡ true → tail_kind (b ∷ bs) ≡ Real
-mark_kind b bs h =
+exponent_letter_kind : (b : ℕ) (bs : List ℕ) → is_one_of "eE" b ≡ true → tail_kind (b ∷ bs) ≡ Real
+exponent_letter_kind b bs h =
     elim (or_cases (101 == b) ((69 == b) || false) h) [
       | inl e ↦ subst (λ c. tail_kind (c ∷ bs) ≡ Real) (eqb-true 101 b e) refl
       | inr e ↦ elim (or_cases (69 == b) false e) [
@@ -50,17 +50,17 @@ mark_kind b bs h =
       ]
     ]
 
-fraction_kind : (a : List ℕ) → is_fraction a ≡ true → tail_kind a ≡ Real
-fraction_kind [] h = absurd (false≢true h)
-fraction_kind (b ∷ bs) h =
-    elim (or_cases (nat_eq 46 b && true && digits_then may_be_exponent bs) (is_exponent (b ∷ bs)) h) [
-      | inl e ↦ subst (λ c. tail_kind (c ∷ bs) ≡ Real) (eqb-true 46 b (and_parts (nat_eq 46 b) true (and_parts (nat_eq 46 b && true) (digits_then may_be_exponent bs) e).0).0) refl
-      | inr e ↦ mark_kind b bs (and_parts (is_one_of "eE" b) (is_numeral bs) e).0
+fraction_or_exponent_kind : (a : List ℕ) → is_fraction_or_exponent a ≡ true → tail_kind a ≡ Real
+fraction_or_exponent_kind [] h = absurd (false≢true h)
+fraction_or_exponent_kind (b ∷ bs) h =
+    elim (or_cases (nat_eq 46 b && true && digits_then is_exponent_or_empty bs) (is_exponent (b ∷ bs)) h) [
+      | inl e ↦ subst (λ c. tail_kind (c ∷ bs) ≡ Real) (eqb-true 46 b (and_parts (nat_eq 46 b) true (and_parts (nat_eq 46 b && true) (digits_then is_exponent_or_empty bs) e).0).0) refl
+      | inr e ↦ exponent_letter_kind b bs (and_parts (is_one_of "eE" b) (is_numeral bs) e).0
     ]
 
 -- the kind that a token has, read off its bytes
 abbrev kind_in : List ℕ → TokenKind
-kind_in text = resolve (front_kind text) (tail text)
+kind_in text = resolve (kind_by_first_byte text) (tail text)
 
 determined : (k : TokenKind) (text : List ℕ) → is_token k text ≡ true → k ≡ kind_in text
 determined k [] h = absurd (false≢true (sym (no_empty k) ∙ h))
@@ -72,9 +72,9 @@ determined Distinct (b ∷ bs) h = ap (λ i. resolve i (tail (b ∷ bs))) (token
 determined Sign (b ∷ bs) h = ap (λ i. resolve i (tail (b ∷ bs))) (token_first Sign b bs h)
 determined Numeral (b ∷ bs) h = sym (tail_numeral (b ∷ bs) h) ∙ ap (λ i. resolve i (tail (b ∷ bs))) (token_first Numeral b bs h)
 determined Rational (b ∷ bs) h =
-    sym (over_kind (after_digits (unsigned (b ∷ bs))) (and_parts (begins_digit (unsigned (b ∷ bs))) (is_over (after_digits (unsigned (b ∷ bs)))) h).1) ∙ ap (λ i. resolve i (tail (b ∷ bs))) (token_first Rational b bs h)
+    sym (slash_digits_kind (after_digits (unsigned (b ∷ bs))) (and_parts (begins_with_digit (unsigned (b ∷ bs))) (is_slash_digits (after_digits (unsigned (b ∷ bs)))) h).1) ∙ ap (λ i. resolve i (tail (b ∷ bs))) (token_first Rational b bs h)
 determined Real (b ∷ bs) h =
-    sym (fraction_kind (after_digits (unsigned (b ∷ bs))) (and_parts (begins_digit (unsigned (b ∷ bs))) (is_fraction (after_digits (unsigned (b ∷ bs)))) h).1) ∙ ap (λ i. resolve i (tail (b ∷ bs))) (token_first Real b bs h)
+    sym (fraction_or_exponent_kind (after_digits (unsigned (b ∷ bs))) (and_parts (begins_with_digit (unsigned (b ∷ bs))) (is_fraction_or_exponent (after_digits (unsigned (b ∷ bs)))) h).1) ∙ ap (λ i. resolve i (tail (b ∷ bs))) (token_first Real b bs h)
 
 pub one_kind : (text : List ℕ) (kind other : TokenKind) → is_token kind text ≡ true → is_token other text ≡ true → kind ≡ other
 one_kind text kind other h g = determined kind text h ∙ sym (determined other text g)

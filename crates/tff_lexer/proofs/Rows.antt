@@ -2,7 +2,7 @@
 use Rattle.std.proofs.Common.{◌≡◌, true, false, [], refl}
 use Rattle.std.specs.Prelude.{codes, pos, negsuc}
 use Rattle.tff_lexer.specs.Forms.{is_dollar, is_quoted, is_distinct, is_numeral, is_rational, is_real, is_sign}
-use Rattle.tff_lexer.specs.Spaces.{skip}
+use Rattle.tff_lexer.specs.Blanks.{skip}
 use Rattle.tff_lexer.specs.Values.{value}
 
 comment : skip (codes " % x\n/* y **/ z") ≡ codes "z"

@@ -3,7 +3,7 @@ use Rattle.std.proofs.Common.{◌≡◌, ℕ, zero, suc, ◌+◌, ◌-◌, ◌<�
 use Rattle.std.proofs.lemmas.Bool.{false≢true}
 use Rattle.tff_lexer.specs.declared.spans.TokenKind.{TokenKind}
 use Rattle.tff_lexer.specs.declared.spans.Token.{Token}
-use Rattle.tff_lexer.specs.Spaces.{skip, gap}
+use Rattle.tff_lexer.specs.Blanks.{skip, skipped_length}
 use Rattle.tff_lexer.specs.Scans.{BeginsToken, StopsAt, ScansAt, Scans, SpansAscend}
 use Rattle.tff_lexer.proofs.FirstBytes.{no_empty}
 
@@ -48,10 +48,10 @@ scans_next bytes rest next made made' kind n so token is within pushed = record 
     length_is : at + n - at ≡ n
     length_is = omega arith
 
-    goes : (ts : List Token) (stop : Option ℕ) → ScansAt (length bytes - length next) next ts stop → ScansAt (at + n + gap (drop (at + n - at) rest)) (skip (drop (at + n - at) rest)) ts stop
+    goes : (ts : List Token) (stop : Option ℕ) → ScansAt (length bytes - length next) next ts stop → ScansAt (at + n + skipped_length (drop (at + n - at) rest)) (skip (drop (at + n - at) rest)) ts stop
     goes ts stop h =
-        let place : at + n + gap (drop n rest) ≡ length bytes - length next = omega (arith, so.within, token.within, within, ap length is, length-drop n rest) in
-        subst (λ k. ScansAt (at + n + gap (drop k rest)) (skip (drop k rest)) ts stop) (sym length_is)
+        let place : at + n + skipped_length (drop n rest) ≡ length bytes - length next = omega (arith, so.within, token.within, within, ap length is, length-drop n rest) in
+        subst (λ k. ScansAt (at + n + skipped_length (drop k rest)) (skip (drop k rest)) ts stop) (sym length_is)
         (subst (λ p. ScansAt p (skip (drop n rest)) ts stop) (sym place) (subst (λ r. ScansAt (length bytes - length next) r ts stop) is h))
 
 pub scans_end : (bytes rest : List ℕ) (made : List Token) (stop : Option ℕ) → ScansSo bytes rest made → StopsAt (length bytes - length rest) rest stop → Scans bytes made stop

@@ -1,5 +1,5 @@
 pub mod Forms
-pub mod Spaces
-pub mod Fronts
+pub mod Blanks
+pub mod Prefixes
 pub mod Scans
 pub mod Values

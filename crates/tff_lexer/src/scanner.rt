@@ -1,19 +1,19 @@
 //! The scan of a text.
 ghost use Rattle.std.specs.Prelude.{◌≡◌, ◌<◌, IfOk, IfSome, length};
-ghost use Rattle.tff_lexer.specs.Fronts.{front_kind, kind_at, token_of};
-ghost use Rattle.tff_lexer.specs.Scans.{BeginsNone, FirstToken, Scans, SpansAscend, StopsAt};
+ghost use Rattle.tff_lexer.specs.Prefixes.{kind_by_first_byte, kind_by_byte, token_of_length};
+ghost use Rattle.tff_lexer.specs.Scans.{BeginsNoToken, FirstToken, Scans, SpansAscend, StopsAt};
 
-use crate::numbers::number;
+use crate::blanks::skip_blanks;
+use crate::numbers::number_token;
 use crate::quotes::{distinct_length, quoted_length};
 use crate::signs::sign_length;
-use crate::space::skip_space;
 use crate::spans::{Scan, Token, TokenKind};
 use crate::words::{dollar_length, lower_length, upper_length};
 use std::alloc::{AllocError, Global};
 
 /// The kind of the tokens that begin with the first byte, if any do; Numeral stands for rationals and reals too.
-fn front_kind(text: &[u8]) -> TokenKind
-    ensures { result ≡ front_kind text.now }
+fn kind_by_first_byte(text: &[u8]) -> TokenKind
+    ensures { result ≡ kind_by_first_byte text.now }
 {
     match text.first() {
         Some(b'a'..=b'z') => TokenKind::Lower,
@@ -27,8 +27,8 @@ fn front_kind(text: &[u8]) -> TokenKind
 }
 
 /// The token of this length, where that isn't 0.
-fn token_of(kind: TokenKind, length: usize) -> Option<(TokenKind, usize)>
-    ensures { result ≡ token_of kind length }
+fn token_of_length(kind: TokenKind, length: usize) -> Option<(TokenKind, usize)>
+    ensures { result ≡ token_of_length kind length }
 {
     if length == 0 {
         None
@@ -41,35 +41,36 @@ fn token_of(kind: TokenKind, length: usize) -> Option<(TokenKind, usize)>
 fn first_token(text: &[u8]) -> Option<(TokenKind, usize)>
     ensures { FirstToken text.now result }
 {
-    match front_kind(text) {
-        TokenKind::Lower => token_of(TokenKind::Lower, lower_length(text)),
-        TokenKind::Upper => token_of(TokenKind::Upper, upper_length(text)),
-        TokenKind::Dollar => token_of(TokenKind::Dollar, dollar_length(text)),
-        TokenKind::Quoted => token_of(TokenKind::Quoted, quoted_length(text)),
-        TokenKind::Distinct => token_of(TokenKind::Distinct, distinct_length(text)),
-        TokenKind::Numeral => number(text),
-        _ => token_of(TokenKind::Sign, sign_length(text)),
+    match kind_by_first_byte(text) {
+        TokenKind::Lower => token_of_length(TokenKind::Lower, lower_length(text)),
+        TokenKind::Upper => token_of_length(TokenKind::Upper, upper_length(text)),
+        TokenKind::Dollar => token_of_length(TokenKind::Dollar, dollar_length(text)),
+        TokenKind::Quoted => token_of_length(TokenKind::Quoted, quoted_length(text)),
+        TokenKind::Distinct => token_of_length(TokenKind::Distinct, distinct_length(text)),
+        TokenKind::Numeral => number_token(text),
+        _ => token_of_length(TokenKind::Sign, sign_length(text)),
     }
 }
 
 /// The place, where something is left there.
 fn stop_at(at: u64, rest: &[u8]) -> Option<u64>
-    requires { BeginsNone rest.now }
+    requires { BeginsNoToken rest.now }
     ensures stops { StopsAt at rest.now result }
     ensures within { IfSome result (λ place. (place ≡ at) × (0 < length rest.now)) }
 {
     if rest.is_empty() { None } else { Some(at) }
 }
 
-/// The tokens of a text from its front on, each the longest that begins at its place behind white space and comments, and
-/// the first byte at which no token begins: None where the text was read to its end. Err where memory is wanting.
+/// The tokens of a text (TPTP) in order, each the longest that begins at its place behind white space and comments, and the
+/// first byte at which no token begins: None where the text was read to its end. Places are bytes, counted from 0. Err where
+/// memory is wanting.
 pub fn tokens(alloc: Global, bytes: &[u8]) -> Result<Scan, AllocError>
     ensures scan { IfOk result (λ scan. Scans bytes.now scan.tokens.items scan.stop) }
     ensures spans { IfOk result (λ scan. SpansAscend (length bytes.now) 0 scan.tokens.items) }
     ensures stop { IfOk result (λ scan. IfSome scan.stop (λ place. place < length bytes.now)) }
 {
     let mut tokens = Vec::new(alloc);
-    let mut rest = skip_space(bytes);
+    let mut rest = skip_blanks(bytes);
     while let Some((kind, length)) = first_token(rest) {
         let start = bytes.len() - rest.len();
         let end = start + length;
@@ -78,7 +79,7 @@ pub fn tokens(alloc: Global, bytes: &[u8]) -> Result<Scan, AllocError>
             start: start as u64,
             end: end as u64,
         })?;
-        rest = skip_space(&rest[length..]);
+        rest = skip_blanks(&rest[length..]);
     }
     let stop = stop_at((bytes.len() - rest.len()) as u64, rest);
     Ok(Scan { tokens, stop })

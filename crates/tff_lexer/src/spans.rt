@@ -13,7 +13,7 @@ pub enum TokenKind {
     Quoted,
     /// The same with `"`, with zero or more in between.
     Distinct,
-    /// Digits, with `+` or `-` in front or not.
+    /// Digits, perhaps directly behind a `+` or `-`.
     Numeral,
     /// A numeral, `/`, digits.
     Rational,

@@ -46,13 +46,14 @@ fn picture(alloc: Global, text: &[u8]) -> Result<Vec<u8>, AllocError> {
 
 #[test]
 fn corners(rt: HostRuntime) {
-    let rows: [(&[u8], &[u8]); 46] = [
+    let rows: [(&[u8], &[u8]); 50] = [
         (b"", b""),
         (b"tff(a,axiom,'p", b"LllSLSLllllS##"),
         (b"f(X,Y_1):$int", b"LSUSUuuSSDddd"),
         (b"a /* x */ b % c\nd", b"L         L     L"),
         (b"a % \xff\x00 /*", b"L        "),
         (b"a /* \xff % \n */b", b"L            L"),
+        (b"a % b\rc", b"L      "),
         (b"/**/a/***/b", b"    L     L"),
         (b"a /* *", b"L ####"),
         (b"/*/ a", b"#####"),
@@ -86,6 +87,9 @@ fn corners(rt: HostRuntime) {
         (b"'a\\b'", b"#####"),
         (b"'a\tb'", b"#####"),
         (b"'~'\x7f", b"Qqq#"),
+        (b"a\x0cb", b"L##"),
+        (b"\x00", b"#"),
+        (b"\"a", b"##"),
         (b"$a$$bC $", b"DdDddd #"),
         (b"$$", b"##"),
         (b"$A", b"##"),

@@ -19,7 +19,7 @@ fn magnitude(digits: &[u8]) -> Option<u128>
     Some(sum)
 }
 
-/// The number that a numeral stands for, or None where it isn't one from -2^127 to 2^127 - 1.
+/// The number that a numeral (an integer of TPTP) stands for, or None where it isn't one from -2^127 to 2^127 - 1.
 /// Leading zeros don't count, however many there are. The text is that of a Numeral token.
 pub fn numeral_value(text: &[u8]) -> Option<i128>
     requires { IsTrue (is_numeral text.now) }

@@ -1,19 +1,19 @@
--- The longest signs in front.
+-- The longest prefixes that are signs.
 use Rattle.std.proofs.Common.{◌≡◌, ℕ, zero, suc, ◌<◌, ◌≤◌, Bool, true, false, ◌||◌, ◌==◌, cond, nat_eq, nat_le, List, [], ◌∷◌, length, take, refl, sym, ap, subst, inl, inr, arith, length-take, length-take-le, codes, if◌then◌else◌}
 use Rattle.std.specs.List.{list_all, list_any, starts_with}
 use Rattle.std.proofs.lemmas.Bool.{false≢true, and_parts, and_from, or_cases, leb-true, eqb-true, ne_eqb, cond_both}
 use lib.Pointwise.{pointwise, bytes_decides}
-use Rattle.tff_lexer.specs.Forms.{begins, is_one_of, signs, is_sign}
-use Rattle.tff_lexer.specs.Fronts.{IsLongestFront}
+use Rattle.tff_lexer.specs.Forms.{begins_with, is_one_of, signs, is_sign}
+use Rattle.tff_lexer.specs.Prefixes.{IsLongestPrefix}
 
--- the length of the sign in front, by its first bytes
+-- the length of the longest sign, by the first bytes
 abbrev pub sign_size : List ℕ → ℕ
 sign_size [] = 0
 sign_size (b ∷ bs) =
-    if b == 60 then (if begins "=>" bs || begins "~>" bs then 3 else if begins "=" bs then 2 else 0)
-    else if b == 61 then (if begins ">" bs || begins ">" bs then 2 else 1)
-    else if b == 126 then (if begins "&" bs || begins "|" bs then 2 else 1)
-    else if b == 33 then (if begins "=" bs || begins ">" bs then 2 else 1)
+    if b == 60 then (if begins_with "=>" bs || begins_with "~>" bs then 3 else if begins_with "=" bs then 2 else 0)
+    else if b == 61 then (if begins_with ">" bs || begins_with ">" bs then 2 else 1)
+    else if b == 126 then (if begins_with "&" bs || begins_with "|" bs then 2 else 1)
+    else if b == 33 then (if begins_with "=" bs || begins_with ">" bs then 2 else 1)
     else if is_one_of "()[],.:&|?*>" b then 1
     else 0
 
@@ -30,14 +30,14 @@ among_signs q (s ∷ ss) t all any =
 sign_bound : (t : List ℕ) → is_sign t ≡ true → length t ≤ sign_size t
 sign_bound t h = leb-true (length t) (sign_size t) (among_signs (λ s. nat_le (length s) (sign_size s)) signs t refl h)
 
--- a word that a front begins with begins the text
-starts_front : (ws : List ℕ) (k : ℕ) (bs : List ℕ) → starts_with nat_eq (take k bs) ws ≡ true → starts_with nat_eq bs ws ≡ true
-starts_front [] k bs h = refl
-starts_front (w ∷ ws) zero bs h = absurd (false≢true h)
-starts_front (w ∷ ws) (suc k) [] h = absurd (false≢true h)
-starts_front (w ∷ ws) (suc k) (c ∷ cs) h =
+-- a word that a prefix begins with begins the text
+starts_prefix : (ws : List ℕ) (k : ℕ) (bs : List ℕ) → starts_with nat_eq (take k bs) ws ≡ true → starts_with nat_eq bs ws ≡ true
+starts_prefix [] k bs h = refl
+starts_prefix (w ∷ ws) zero bs h = absurd (false≢true h)
+starts_prefix (w ∷ ws) (suc k) [] h = absurd (false≢true h)
+starts_prefix (w ∷ ws) (suc k) (c ∷ cs) h =
     let parts = and_parts (nat_eq w c) (starts_with nat_eq (take k cs) ws) h in
-    and_from (nat_eq w c) (starts_with nat_eq cs ws) parts.0 (starts_front ws k cs parts.1)
+    and_from (nat_eq w c) (starts_with nat_eq cs ws) parts.0 (starts_prefix ws k cs parts.1)
 
 or_more : (a b a' b' : Bool) → (a' ≡ true → a ≡ true) → (b' ≡ true → b ≡ true) → (a' || b') ≡ true → (a || b) ≡ true
 or_more a b true b' f g h = rw (f refl) refl
@@ -64,12 +64,12 @@ cond_le : (v : Bool) (x' y' x y : ℕ) → x' ≤ x → y' ≤ y → cond v x' y
 cond_le true x' y' x y f g = f
 cond_le false x' y' x y f g = g
 
--- a front has no longer sign in front than the text
-sign_size_front : (m : ℕ) (text : List ℕ) → sign_size (take m text) ≤ sign_size text
-sign_size_front zero text = omega arith
-sign_size_front (suc m) [] = omega arith
-sign_size_front (suc m) (b ∷ bs) =
-    let more : (ws : List ℕ) → starts_with nat_eq (take m bs) ws ≡ true → starts_with nat_eq bs ws ≡ true = λ ws. starts_front ws m bs in
+-- a prefix begins with no longer sign than the text
+sign_size_prefix : (m : ℕ) (text : List ℕ) → sign_size (take m text) ≤ sign_size text
+sign_size_prefix zero text = omega arith
+sign_size_prefix (suc m) [] = omega arith
+sign_size_prefix (suc m) (b ∷ bs) =
+    let more : (ws : List ℕ) → starts_with nat_eq (take m bs) ws ≡ true → starts_with nat_eq bs ws ≡ true = λ ws. starts_prefix ws m bs in
     let has : List ℕ → Bool = λ ws. starts_with nat_eq bs ws in
     let had : List ℕ → Bool = λ ws. starts_with nat_eq (take m bs) ws in
     let both : (v w : List ℕ) → (had v || had w) ≡ true → (has v || has w) ≡ true = λ v w. or_more (has v) (has w) (had v) (had w) (more v) (more w) in
@@ -80,22 +80,22 @@ sign_size_front (suc m) (b ∷ bs) =
     (omega arith))))
 
 -- n bytes of the text are there, and are a sign where n isn't 0
-abbrev IsSignFront : List ℕ → ℕ → Type 0
-IsSignFront text n = (n ≤ length text) × (0 < n → is_sign (take n text) ≡ true)
+abbrev IsSignPrefix : List ℕ → ℕ → Type 0
+IsSignPrefix text n = (n ≤ length text) × (0 < n → is_sign (take n text) ≡ true)
 
 -- a byte, and a word behind it
-spelled : (b : ℕ) (ws : List ℕ) (bs : List ℕ) → is_sign (b ∷ ws) ≡ true → starts_with nat_eq bs ws ≡ true → IsSignFront (b ∷ bs) (suc (length ws))
+spelled : (b : ℕ) (ws : List ℕ) (bs : List ℕ) → is_sign (b ∷ ws) ≡ true → starts_with nat_eq bs ws ≡ true → IsSignPrefix (b ∷ bs) (suc (length ws))
 spelled b ws bs sign h =
     let e : ws ≡ take (length ws) bs = (bytes_decides ws (take (length ws) bs)).0 h in
     (omega (arith, ap length e, length-take (length ws) bs), λ p. subst (λ t. is_sign (b ∷ t) ≡ true) e sign)
 
-alone : (b : ℕ) (bs : List ℕ) → is_sign (b ∷ []) ≡ true → IsSignFront (b ∷ bs) 1
+alone : (b : ℕ) (bs : List ℕ) → is_sign (b ∷ []) ≡ true → IsSignPrefix (b ∷ bs) 1
 alone b bs sign = (omega arith, λ p. sign)
 
-nothing : (text : List ℕ) → IsSignFront text 0
+nothing : (text : List ℕ) → IsSignPrefix text 0
 nothing text = (omega arith, λ p. absurd (omega arith))
 
-or_spelled : (b : ℕ) (v w : List ℕ) (bs : List ℕ) → is_sign (b ∷ v) ≡ true → is_sign (b ∷ w) ≡ true → length v ≡ length w → (starts_with nat_eq bs v || starts_with nat_eq bs w) ≡ true → IsSignFront (b ∷ bs) (suc (length v))
+or_spelled : (b : ℕ) (v w : List ℕ) (bs : List ℕ) → is_sign (b ∷ v) ≡ true → is_sign (b ∷ w) ≡ true → length v ≡ length w → (starts_with nat_eq bs v || starts_with nat_eq bs w) ≡ true → IsSignPrefix (b ∷ bs) (suc (length v))
 or_spelled b v w bs p q same h =
     elim (or_cases (starts_with nat_eq bs v) (starts_with nat_eq bs w) h) [ inl e ↦ spelled b v bs p e | inr e ↦ rw same (spelled b w bs q e) ]
 
@@ -109,33 +109,33 @@ among_bytes q (c ∷ cs) b all any =
       | inr e ↦ among_bytes q cs b parts.1 e
     ]
 
-sign_is_front : (text : List ℕ) → IsSignFront text (sign_size text)
-sign_is_front [] = nothing []
-sign_is_front (b ∷ bs) =
-    let P : ℕ → Type 0 = λ n. IsSignFront (b ∷ bs) n in
-    let at : (c : ℕ) (n : ℕ) → IsSignFront (c ∷ bs) n → (b == c) ≡ true → P n = λ c n f e. subst (λ d. IsSignFront (d ∷ bs) n) (sym (eqb-true b c e)) f in
-    let one_or_two : (c : ℕ) (v : Bool) → is_sign (c ∷ []) ≡ true → (v ≡ true → IsSignFront (c ∷ bs) 2) → IsSignFront (c ∷ bs) (cond v 2 1) = λ c v single two. cond_both v 2 1 (λ n. IsSignFront (c ∷ bs) n) two (λ e. alone c bs single) in
-    cond_both (b == 60) _ _ P (at 60 _ (cond_both (begins "=>" bs || begins "~>" bs) 3 (cond (begins "=" bs) 2 0) (λ n. IsSignFront (60 ∷ bs) n)
+sign_is_prefix : (text : List ℕ) → IsSignPrefix text (sign_size text)
+sign_is_prefix [] = nothing []
+sign_is_prefix (b ∷ bs) =
+    let P : ℕ → Type 0 = λ n. IsSignPrefix (b ∷ bs) n in
+    let at : (c : ℕ) (n : ℕ) → IsSignPrefix (c ∷ bs) n → (b == c) ≡ true → P n = λ c n f e. subst (λ d. IsSignPrefix (d ∷ bs) n) (sym (eqb-true b c e)) f in
+    let one_or_two : (c : ℕ) (v : Bool) → is_sign (c ∷ []) ≡ true → (v ≡ true → IsSignPrefix (c ∷ bs) 2) → IsSignPrefix (c ∷ bs) (cond v 2 1) = λ c v single two. cond_both v 2 1 (λ n. IsSignPrefix (c ∷ bs) n) two (λ e. alone c bs single) in
+    cond_both (b == 60) _ _ P (at 60 _ (cond_both (begins_with "=>" bs || begins_with "~>" bs) 3 (cond (begins_with "=" bs) 2 0) (λ n. IsSignPrefix (60 ∷ bs) n)
     (or_spelled 60 (codes "=>") (codes "~>") bs refl refl refl)
-    (λ e. cond_both (begins "=" bs) 2 0 (λ n. IsSignFront (60 ∷ bs) n) (spelled 60 (codes "=") bs refl) (λ f. nothing (60 ∷ bs)))))
-    (λ e60. cond_both (b == 61) _ _ P (at 61 _ (one_or_two 61 (begins ">" bs || begins ">" bs) refl (or_spelled 61 (codes ">") (codes ">") bs refl refl refl)))
-    (λ e61. cond_both (b == 126) _ _ P (at 126 _ (one_or_two 126 (begins "&" bs || begins "|" bs) refl (or_spelled 126 (codes "&") (codes "|") bs refl refl refl)))
-    (λ e126. cond_both (b == 33) _ _ P (at 33 _ (one_or_two 33 (begins "=" bs || begins ">" bs) refl (or_spelled 33 (codes "=") (codes ">") bs refl refl refl)))
+    (λ e. cond_both (begins_with "=" bs) 2 0 (λ n. IsSignPrefix (60 ∷ bs) n) (spelled 60 (codes "=") bs refl) (λ f. nothing (60 ∷ bs)))))
+    (λ e60. cond_both (b == 61) _ _ P (at 61 _ (one_or_two 61 (begins_with ">" bs || begins_with ">" bs) refl (or_spelled 61 (codes ">") (codes ">") bs refl refl refl)))
+    (λ e61. cond_both (b == 126) _ _ P (at 126 _ (one_or_two 126 (begins_with "&" bs || begins_with "|" bs) refl (or_spelled 126 (codes "&") (codes "|") bs refl refl refl)))
+    (λ e126. cond_both (b == 33) _ _ P (at 33 _ (one_or_two 33 (begins_with "=" bs || begins_with ">" bs) refl (or_spelled 33 (codes "=") (codes ">") bs refl refl refl)))
     (λ e33. cond_both (is_one_of "()[],.:&|?*>" b) 1 0 P (λ e. alone b bs (among_bytes (λ c. is_sign (c ∷ [])) (codes "()[],.:&|?*>") b refl e)) (λ e. nothing (b ∷ bs))))))
 
-pub sign_front : (text : List ℕ) → IsLongestFront is_sign text (sign_size text)
-sign_front text = record {
-  within = (sign_is_front text).0;
-  passes = (sign_is_front text).1;
-  longest = λ m h t. let k = sign_bound (take m text) t in omega (arith, k, sign_size_front m text, length-take-le m text h);
+pub sign_prefix : (text : List ℕ) → IsLongestPrefix is_sign text (sign_size text)
+sign_prefix text = record {
+  within = (sign_is_prefix text).0;
+  passes = (sign_is_prefix text).1;
+  longest = λ m h t. let k = sign_bound (take m text) t in omega (arith, k, sign_size_prefix m text, length-take-le m text h);
 }
 
 -- the same, by the first byte and what follows
 module _ (text rest : List ℕ) (b n : ℕ) (split : text ≡ b ∷ rest) where
-  pub sign_at : (c : ℕ) → b ≡ c → n ≡ sign_size (c ∷ rest) → IsLongestFront is_sign text n
-  sign_at c e size = rw (size, split, e) (sign_front (c ∷ rest))
+  pub sign_at : (c : ℕ) → b ≡ c → n ≡ sign_size (c ∷ rest) → IsLongestPrefix is_sign text n
+  sign_at c e token_length = rw (token_length, split, e) (sign_prefix (c ∷ rest))
 
-  pub sign_else : (b ≡ 60 → ⊥) → (b ≡ 61 → ⊥) → (b ≡ 126 → ⊥) → (b ≡ 33 → ⊥) → n ≡ cond (is_one_of "()[],.:&|?*>" b) 1 0 → IsLongestFront is_sign text n
-  sign_else d60 d61 d126 d33 size =
-      let e : sign_size (b ∷ rest) ≡ n = rw (ne_eqb b 60 d60, ne_eqb b 61 d61, ne_eqb b 126 d126, ne_eqb b 33 d33) (sym size) in
-      rw (split, ← e) (sign_front (b ∷ rest))
+  pub sign_else : (b ≡ 60 → ⊥) → (b ≡ 61 → ⊥) → (b ≡ 126 → ⊥) → (b ≡ 33 → ⊥) → n ≡ cond (is_one_of "()[],.:&|?*>" b) 1 0 → IsLongestPrefix is_sign text n
+  sign_else d60 d61 d126 d33 token_length =
+      let e : sign_size (b ∷ rest) ≡ n = rw (ne_eqb b 60 d60, ne_eqb b 61 d61, ne_eqb b 126 d126, ne_eqb b 33 d33) (sym token_length) in
+      rw (split, ← e) (sign_prefix (b ∷ rest))

@@ -2,12 +2,12 @@
 use Rattle.std.proofs.Common.{◌≡◌, ℕ, zero, suc, ◌<◌, ◌≤◌, List, [], ◌∷◌, length, drop, Option, Some, None, refl, sym, ap, ◌∙◌, subst, ◌==◌, arith, length-drop}
 use Rattle.std.proofs.lemmas.Bool.{cond_both}
 use Rattle.std.proofs.lemmas.Option.{none-some}
-use Rattle.tff_lexer.specs.Forms.{begins}
-use Rattle.tff_lexer.specs.Spaces.{is_white, after_line, after_comment, after_space, skip_on, skip_times, skip}
+use Rattle.tff_lexer.specs.Forms.{begins_with}
+use Rattle.tff_lexer.specs.Blanks.{is_white_space, after_comment_line, after_comment_block, after_blank, skip_on, skip_times, skip}
 
-after_line-length : (bs : List ℕ) → length (after_line bs) ≤ length bs
-after_line-length [] = omega arith
-after_line-length (b ∷ bs) = let h = after_line-length bs in cond_both (b == 10) bs (after_line bs) (λ (r : List ℕ). length r ≤ suc (length bs)) (λ e. omega arith) (λ e. omega arith)
+after_comment_line-length : (bs : List ℕ) → length (after_comment_line bs) ≤ length bs
+after_comment_line-length [] = omega arith
+after_comment_line-length (b ∷ bs) = let h = after_comment_line-length bs in cond_both (b == 10) bs (after_comment_line bs) (λ (r : List ℕ). length r ≤ suc (length bs)) (λ e. omega arith) (λ e. omega arith)
 
 -- what is left is at most this long
 abbrev AtMost : ℕ → Option (List ℕ) → Type 0
@@ -25,23 +25,23 @@ at_most_less : (m n : ℕ) (o : Option (List ℕ)) → m ≤ n → AtMost m o �
 at_most_less m n None le h = tt
 at_most_less m n (Some rest) le h = omega arith
 
-after_comment-length : (bs : List ℕ) → AtMost (length bs) (after_comment bs)
-after_comment-length [] = tt
-after_comment-length (b ∷ bs) =
-    cond_both (begins "*/" (b ∷ bs)) (Some (drop 1 bs)) (after_comment bs) (AtMost (suc (length bs)))
+after_comment_block-length : (bs : List ℕ) → AtMost (length bs) (after_comment_block bs)
+after_comment_block-length [] = tt
+after_comment_block-length (b ∷ bs) =
+    cond_both (begins_with "*/" (b ∷ bs)) (Some (drop 1 bs)) (after_comment_block bs) (AtMost (suc (length bs)))
     (λ e. let h = drop_one bs in omega arith)
-    (λ e. at_most_more (length bs) (after_comment bs) (after_comment-length bs))
+    (λ e. at_most_more (length bs) (after_comment_block bs) (after_comment_block-length bs))
 
-after_space-length : (b : ℕ) (bs : List ℕ) → AtMost (length bs) (after_space (b ∷ bs))
-after_space-length b bs =
+after_blank-length : (b : ℕ) (bs : List ℕ) → AtMost (length bs) (after_blank (b ∷ bs))
+after_blank-length b bs =
     let P : Option (List ℕ) → Type 0 = AtMost (length bs) in
-    cond_both (is_white b) (Some bs) _ P (λ e. omega arith)
-    (λ e. cond_both (b == 37) (Some (after_line bs)) _ P (λ f. after_line-length bs)
-    (λ f. cond_both (begins "/*" (b ∷ bs)) (after_comment (drop 1 bs)) None P (λ g. at_most_less (length (drop 1 bs)) (length bs) (after_comment (drop 1 bs)) (drop_one bs) (after_comment-length (drop 1 bs))) (λ g. tt)))
+    cond_both (is_white_space b) (Some bs) _ P (λ e. omega arith)
+    (λ e. cond_both (b == 37) (Some (after_comment_line bs)) _ P (λ f. after_comment_line-length bs)
+    (λ f. cond_both (begins_with "/*" (b ∷ bs)) (after_comment_block (drop 1 bs)) None P (λ g. at_most_less (length (drop 1 bs)) (length bs) (after_comment_block (drop 1 bs)) (drop_one bs) (after_comment_block-length (drop 1 bs))) (λ g. tt)))
 
-pub shorter : (bs rest : List ℕ) → after_space bs ≡ Some rest → length rest < length bs
+pub shorter : (bs rest : List ℕ) → after_blank bs ≡ Some rest → length rest < length bs
 shorter [] rest e = absurd (none-some rest e)
-shorter (b ∷ bs) rest e = let h : AtMost (length bs) (Some rest) = subst (AtMost (length bs)) e (after_space-length b bs) in omega arith
+shorter (b ∷ bs) rest e = let h : AtMost (length bs) (Some rest) = subst (AtMost (length bs)) e (after_blank-length b bs) in omega arith
 
 skip_times-nil : (n : ℕ) → skip_times n [] ≡ []
 skip_times-nil zero = refl
@@ -57,14 +57,14 @@ skip_times-enough m n [] p q = skip_times-nil m ∙ sym (skip_times-nil n)
 skip_times-enough zero n (b ∷ bs) p q = absurd (omega arith)
 skip_times-enough (suc m) zero (b ∷ bs) p q = absurd (omega arith)
 skip_times-enough (suc m) (suc n) (b ∷ bs) p q =
-    skip_on-same (skip_times m) (skip_times n) (length bs) (b ∷ bs) (after_space (b ∷ bs)) (after_space-length b bs) (λ rest h. skip_times-enough m n rest (omega arith) (omega arith))
+    skip_on-same (skip_times m) (skip_times n) (length bs) (b ∷ bs) (after_blank (b ∷ bs)) (after_blank-length b bs) (λ rest h. skip_times-enough m n rest (omega arith) (omega arith))
 
-pub skip_step : (bs rest : List ℕ) → after_space bs ≡ Some rest → skip rest ≡ skip bs
+pub skip_step : (bs rest : List ℕ) → after_blank bs ≡ Some rest → skip rest ≡ skip bs
 skip_step [] rest e = absurd (none-some rest e)
 skip_step (b ∷ bs) rest e =
     let less = shorter (b ∷ bs) rest e in
     skip_times-enough (length rest) (length bs) rest (omega arith) (omega (arith, less)) ∙ sym (ap (skip_on (skip_times (length bs)) (b ∷ bs)) e)
 
-pub skip_end : (bs : List ℕ) → after_space bs ≡ None → skip bs ≡ bs
+pub skip_end : (bs : List ℕ) → after_blank bs ≡ None → skip bs ≡ bs
 skip_end [] e = refl
 skip_end (b ∷ bs) e = ap (skip_on (skip_times (length bs)) (b ∷ bs)) e

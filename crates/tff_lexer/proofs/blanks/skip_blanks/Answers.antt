@@ -1,6 +1,6 @@
 use Rattle.std.proofs.Common.{sym, ◌∙◌, arith}
-use Rattle.tff_lexer.proofs.SpaceLemmas.{shorter, skip_step}
-use Rattle.tff_lexer.proofs.space.skip_space.Goals as goal
+use Rattle.tff_lexer.proofs.SkipLemmas.{shorter, skip_step}
+use Rattle.tff_lexer.proofs.blanks.skip_blanks.Goals as goal
 
 pub loop-more-smaller : goal.loop-more-smaller
 loop-more-smaller c = shorter c.loop-more.rest.now c.in-Some.more.now (sym (c.in-Some.ensures))

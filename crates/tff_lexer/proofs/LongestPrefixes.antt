@@ -1,10 +1,10 @@
--- Longest fronts: how one is found from that of the rest.
+-- How the longest prefix is found from that of the rest.
 use Rattle.std.proofs.Common.{◌≡◌, ℕ, zero, suc, ◌+◌, ◌≤◌, Bool, true, false, cond, List, [], ◌∷◌, length, take, refl, sym, ◌∙◌, arith}
 use Rattle.std.specs.List.{list_all, prefix_len}
 use Rattle.std.proofs.lemmas.Bool.{false≢true, and_parts}
-use Rattle.tff_lexer.specs.Fronts.{IsLongestFront, behind}
+use Rattle.tff_lexer.specs.Prefixes.{IsLongestPrefix, joined_length}
 
--- a front that passes everywhere is no longer than the prefix that does
+-- a prefix that passes everywhere is no longer than `prefix_len`
 pub all_take : (p : ℕ → Bool) (m : ℕ) (xs : List ℕ) → m ≤ length xs → list_all p (take m xs) ≡ true → m ≤ prefix_len p xs
 all_take p zero xs h all = omega arith
 all_take p (suc m) [] h all = omega arith
@@ -22,30 +22,30 @@ pub prefix_passes : (p : ℕ → Bool) (xs : List ℕ) → list_all p (take (pre
 prefix_passes p [] = refl
 prefix_passes p (x ∷ xs) = prefix_step p x xs (p x) refl (prefix_passes p xs)
 
--- no front passes
-pub no_front : (test : List ℕ → Bool) (text : List ℕ) → ((m : ℕ) → test (take m text) ≡ false) → IsLongestFront test text 0
-no_front test text none = record {
+-- no prefix passes
+pub no_prefix : (test : List ℕ → Bool) (text : List ℕ) → ((m : ℕ) → test (take m text) ≡ false) → IsLongestPrefix test text 0
+no_prefix test text none = record {
   within = omega arith;
   passes = λ h. absurd (omega arith);
   longest = λ m h t. absurd (false≢true (sym (none m) ∙ t));
 }
 
--- where the longest front has no byte, no front passes
-pub none_passes : (test : List ℕ → Bool) (text : List ℕ) (m : ℕ) → test [] ≡ false → IsLongestFront test text 0 → m ≤ length text → test (take m text) ≡ true → ⊥
+-- where the longest prefix has no byte, no prefix passes
+pub none_passes : (test : List ℕ → Bool) (text : List ℕ) (m : ℕ) → test [] ≡ false → IsLongestPrefix test text 0 → m ≤ length text → test (take m text) ≡ true → ⊥
 none_passes test text zero none f h t = false≢true (sym none ∙ t)
 none_passes test text (suc m) none f h t = let k : suc m ≤ 0 = f.longest (suc m) h t in absurd (omega arith)
 
--- the same fronts pass another test
-pub same_fronts : (test other : List ℕ → Bool) (text : List ℕ) (n : ℕ) → ((m : ℕ) → other (take m text) ≡ test (take m text)) → IsLongestFront test text n → IsLongestFront other text n
-same_fronts test other text n same f = record {
+-- the same prefixes pass another test
+pub same_prefixes : (test other : List ℕ → Bool) (text : List ℕ) (n : ℕ) → ((m : ℕ) → other (take m text) ≡ test (take m text)) → IsLongestPrefix test text n → IsLongestPrefix other text n
+same_prefixes test other text n same f = record {
   within = f.within;
   passes = λ h. same n ∙ f.passes h;
   longest = λ m h t. f.longest m h (sym (same m) ∙ t);
 }
 
--- a front behind one byte
-pub behind_one : (test other : List ℕ → Bool) (b : ℕ) (bs : List ℕ) (n : ℕ) → test [] ≡ false → other [] ≡ false → ((m : ℕ) → other (b ∷ take m bs) ≡ test (take m bs)) → IsLongestFront test bs n → IsLongestFront other (b ∷ bs) (behind 1 n)
-behind_one test other b bs zero none none' same f = record {
+-- a prefix behind one byte
+pub joined_one : (test other : List ℕ → Bool) (b : ℕ) (bs : List ℕ) (n : ℕ) → test [] ≡ false → other [] ≡ false → ((m : ℕ) → other (b ∷ take m bs) ≡ test (take m bs)) → IsLongestPrefix test bs n → IsLongestPrefix other (b ∷ bs) (joined_length 1 n)
+joined_one test other b bs zero none none' same f = record {
   within = omega arith;
   passes = λ h. absurd (omega arith);
   longest = longest;
@@ -54,7 +54,7 @@ behind_one test other b bs zero none none' same f = record {
     longest : (m : ℕ) → m ≤ length (b ∷ bs) → other (take m (b ∷ bs)) ≡ true → m ≤ 0
     longest zero h t = omega arith
     longest (suc m) h t = absurd (none_passes test bs m none f (omega arith) (sym (same m) ∙ t))
-behind_one test other b bs (suc n) none none' same f = record {
+joined_one test other b bs (suc n) none none' same f = record {
   within = let h = f.within in omega arith;
   passes = λ h. let e : 1 + suc n ≡ suc (suc n) = omega arith in rw e (same (suc n) ∙ f.passes (omega arith));
   longest = longest;
@@ -65,10 +65,10 @@ behind_one test other b bs (suc n) none none' same f = record {
     longest (suc m) h t = let k : m ≤ suc n = f.longest m (omega arith) (sym (same m) ∙ t) in omega arith
 
 -- behind nothing
-pub behind_zero : (n : ℕ) → behind 0 n ≡ n
-behind_zero zero = refl
-behind_zero (suc n) = omega arith
+pub joined_zero : (n : ℕ) → joined_length 0 n ≡ n
+joined_zero zero = refl
+joined_zero (suc n) = omega arith
 
-pub behind-behind : (j k n : ℕ) → behind j (behind k n) ≡ behind (j + k) n
-behind-behind j k zero = refl
-behind-behind j k (suc n) = let e : k + suc n ≡ suc (k + n) = omega arith in rw e (omega arith)
+pub joined_length-joined_length : (j k n : ℕ) → joined_length j (joined_length k n) ≡ joined_length (j + k) n
+joined_length-joined_length j k zero = refl
+joined_length-joined_length j k (suc n) = let e : k + suc n ≡ suc (k + n) = omega arith in rw e (omega arith)

@@ -1,6 +1,6 @@
 use Rattle.std.proofs.Common.{arith}
-use Rattle.tff_lexer.proofs.QuoteFronts.{close_found, close_on}
-use Rattle.tff_lexer.proofs.quotes.close_length.Goals as goal
+use Rattle.tff_lexer.proofs.QuotePrefixes.{close_found, close_on}
+use Rattle.tff_lexer.proofs.quotes.content_and_quote_length.Goals as goal
 
 pub returns-then-first-quote : goal.returns-then-first-quote
 returns-then-first-quote c =
@@ -8,7 +8,7 @@ returns-then-first-quote c =
 
 pub loop-first-preserved : goal.loop-first-preserved
 loop-first-preserved c =
-    let a = c.in-Some-after_inside in
+    let a = c.in-Some-after_character in
     record {
       within = omega (arith, a.ensures.shorter, c.in-Some.ensures.cases.1);
       goes = λ n f. close_on c.args.quote c.in-Some.first.now c.args.text.now c.loop-first.rest.now c.in-Some.more.now c.in-Some.ensures.cases.0 c.loop-first.invariant.within c.loop-first.invariant.goes a.after.now n a.ensures.shorter (a.ensures.next n) f;

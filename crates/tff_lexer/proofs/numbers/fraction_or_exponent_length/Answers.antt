@@ -1,6 +1,6 @@
 use Rattle.std.proofs.Common.{arith, sym, ◌∙◌}
-use Rattle.tff_lexer.proofs.NumberFronts.{dot_none, dot_is}
-use Rattle.tff_lexer.proofs.numbers.fraction_length.Goals as goal
+use Rattle.tff_lexer.proofs.NumberPrefixes.{dot_none, dot_is}
+use Rattle.tff_lexer.proofs.numbers.fraction_or_exponent_length.Goals as goal
 
 pub returns-in-0 : goal.returns-in-0
 returns-in-0 c =

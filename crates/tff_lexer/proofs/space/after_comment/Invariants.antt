@@ -1,9 +1,0 @@
-use Rattle.std.proofs.Common.{◌≡◌, length}
-use Rattle.tff_lexer.specs.Spaces as spec
-use Rattle.tff_lexer.proofs.space.after_comment.Given as goal
-
-abbrev pub invariant-loop-more : goal.invariant-loop-more
-invariant-loop-more l = spec.after_comment l.rest ≡ spec.after_comment l.fn.text
-
-abbrev pub decreases-loop-more : goal.decreases-loop-more
-decreases-loop-more l = length l.rest
