@@ -1,5 +1,5 @@
 -- Terms of sort Int without foreground symbols, and what substitutions by them keep.
-use Rattle.std.proofs.Common.{◌≡◌, ℕ, Bool, true, false, ◌&&◌, not, List, [], ◌∷◌, refl, ap, sym, ◌∙◌, inl, inr}
+use Rattle.std.proofs.Common.{◌≡◌, Bool, true, false, not, List, [], ◌∷◌, refl, ap, sym, ◌∙◌, inl, inr}
 use Rattle.std.specs.Prelude.{Option, Some, None, if◌then◌else◌, slice_get}
 use Rattle.std.specs.List.{list_all}
 use Rattle.std.specs.Option.{option_map_or}
@@ -9,11 +9,11 @@ use Rattle.term_base.specs.declared.symbols.Symbol.{Symbol}
 use Rattle.term_base.specs.declared.variables.Variable.{Variable}
 use Rattle.term_base.specs.Classes.{class_of}
 use Rattle.term_base.specs.Same.{same_sort}
-use Rattle.term_base.specs.SameLemmas.{same_sort-true, same_sort-refl, same_variable-refl}
+use Rattle.term_base.specs.SameLemmas.{same_sort-true, same_variable-refl}
 use Rattle.term_base.specs.Trees.{Head, truth, number, plus, times, symbol, Tree, Trees, var, node, none, more, occurs, any_occurs}
 use Rattle.term_base.specs.TreeLemmas.{both_ways, or-true, or-false, or-left, or-right, and-true}
 use Rattle.term_base.specs.Sorting.{has_sort, have_sorts, arity, result_sort, sort, sorts}
-use Rattle.term_base.specs.Purity.{is_foreground_class, is_foreground, foreground_head, foreground, any_foreground, foreign, any_foreign}
+use Rattle.term_base.specs.Purity.{is_foreground_class, foreground_head, foreground, any_foreground, foreign, any_foreign}
 use Rattle.term_base.specs.Substitution.{put_in, put_all, Simple}
 use Rattle.term_base.specs.SubstLemmas.{foreground-put_in, inner_foreground}
 use Rattle.term_base.specs.Lits.{Lit, lit_occurs, clause_occurs, put_lit, put_clause}

@@ -1,5 +1,5 @@
 -- The purity of a term by what is in it.
-use Rattle.std.proofs.Common.{◌≡◌, Bool, true, false, List, refl, inl, inr, if◌then◌else◌}
+use Rattle.std.proofs.Common.{◌≡◌, Bool, true, false, List, refl, if◌then◌else◌}
 use Rattle.std.specs.Prelude.{◌↔◌}
 use Rattle.term_base.specs.declared.symbols.Symbol.{Symbol}
 use Rattle.term_base.specs.declared.terms.Purity.{Purity}
@@ -29,7 +29,7 @@ module _ (signature : List Symbol) (t : Tree) where
   pub purity-pure : (purity signature t ≡ Pure) ↔ IsPure signature t
   purity-pure = (
     (λ h. let two = grade-pure (foreground signature t) (ordinary t) h in record { no_foreground = two.0; no_ordinary = two.1 }),
-    (λ p. rw (p.no_foreground, p.no_ordinary) refl)
+    (λ p. rw (p.no_foreground, p.no_ordinary) refl),
   )
 
   pub purity-impure : (purity signature t ≡ Impure) ↔ ((foreground signature t ≡ false) × (ordinary t ≡ true))

@@ -1,14 +1,12 @@
 -- Literals and clauses weigh at least as much as they have nodes.
-use Rattle.std.proofs.Common.{◌≡◌, ◌≤◌, ℕ, List, [], ◌∷◌, map, arith}
-use Rattle.std.specs.Prelude.{sum_by}
+use Rattle.std.proofs.Common.{◌≤◌, List, [], ◌∷◌, map, arith}
 use Rattle.std.proofs.lemmas.List.Sums.{sum_by-cons}
 use Rattle.term_base.specs.declared.clauses.Clause.{Clause}
 use Rattle.term_base.specs.declared.clauses.Literal.{Literal}
 use Rattle.term_base.specs.declared.clauses.Literal.TheVariants.{Equal, Differ, AtMost}
-use Rattle.term_base.specs.Trees.{tree}
 use Rattle.term_base.specs.Lits.{lit, lits}
-use Rattle.term_base.specs.Weight.{weight, lit_weight, clause_weight}
-use Rattle.term_base.specs.Nodes.{total, nodes, literal_nodes, clause_nodes}
+use Rattle.term_base.specs.Weight.{lit_weight, clause_weight}
+use Rattle.term_base.specs.Nodes.{total, literal_nodes, clause_nodes}
 use Rattle.term_base.proofs.LawLemmas.{nodes-weight}
 
 pub literal_nodes-weight : (l : Literal) → literal_nodes l ≤ lit_weight (lit l)

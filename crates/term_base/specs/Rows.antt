@@ -2,7 +2,7 @@
 use Rattle.std.proofs.Common.{ap, sym, refl, inl, inr}
 use Rattle.std.specs.Prelude.{◌≡◌, pos, negsuc, Bool, true, false, List, [], ◌∷◌, Some, None}
 use Rattle.term_base.specs.declared.places.Place.{Place}
-use Rattle.term_base.specs.declared.places.Side.TheVariants.{Left, Right}
+use Rattle.term_base.specs.declared.places.Side.TheVariants.{Right}
 use Rattle.term_base.specs.declared.symbols.Class.TheVariants as class
 use Rattle.term_base.specs.declared.symbols.Sort.TheVariants.{Int, Declared, Truth}
 use Rattle.term_base.specs.declared.symbols.Symbol.{Symbol}
@@ -19,7 +19,7 @@ use Rattle.term_base.specs.Lits.{Relation, equal, differ, at_most, Lit, equation
 use Rattle.term_base.specs.Redundancy.{Tautology, equals_itself, at_most_itself, opposed, opposed_crosswise, Covers}
 use Rattle.term_base.specs.Clauses.{is_well_sorted, is_background}
 use Rattle.term_base.specs.Places.{tree_at, replaced}
-use Rattle.term_base.specs.Weight.{weight, clause_weight}
+use Rattle.term_base.specs.Weight.{clause_weight}
 
 -- s0: $int > $int, s1: $int > $o; s2 is past the list, so a parameter
 abbrev symbols : List Symbol
