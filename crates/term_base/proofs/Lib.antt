@@ -1,4 +1,7 @@
 pub mod Ascending
+pub mod BackgroundLemmas
 pub mod DerivedOrder
 pub mod LawLemmas
+pub mod PurityLemmas
 pub mod SimpleLemmas
+pub mod WeightLemmas

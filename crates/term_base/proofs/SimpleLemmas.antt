@@ -17,11 +17,11 @@ use Rattle.term_base.specs.SimpleTest.{is_pure_tree, is_simple_pair, are_simple_
 use Rattle.term_base.specs.VariableOrderLemmas.{variable_cmp-refl}
 use Rattle.term_base.proofs.Ascending.{image-found}
 
-has_sort-true : (o : Option Sort) (s : Sort) → has_sort o s ≡ true → o ≡ Some s
+pub has_sort-true : (o : Option Sort) (s : Sort) → has_sort o s ≡ true → o ≡ Some s
 has_sort-true None s h = cc
 has_sort-true (Some r) s h = ap Some (same_sort-true r s h)
 
-not-true : (b : Bool) → not b ≡ true → b ≡ false
+pub not-true : (b : Bool) → not b ≡ true → b ≡ false
 not-true true h = cc
 not-true false h = refl
 

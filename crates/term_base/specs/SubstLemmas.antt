@@ -1,5 +1,5 @@
 -- Substitution on trees: composition, agreement, occurrence, weight and sorts.
-use Rattle.std.proofs.Common.{◌≡◌, ◌⊎◌, inl, inr, ◌+◌, ◌≤◌, true, false, List, refl, ap, sym, ◌∙◌, arith}
+use Rattle.std.proofs.Common.{◌≡◌, ◌⊎◌, inl, inr, ◌+◌, ◌≤◌, true, false, not, List, refl, ap, sym, ◌∙◌, subst, arith}
 use Rattle.std.specs.Prelude.{Some}
 use Rattle.term_base.specs.declared.symbols.Symbol.{Symbol}
 use Rattle.term_base.specs.declared.variables.Variable.{Variable}
@@ -7,8 +7,8 @@ use Rattle.term_base.specs.Same.{same_variable}
 use Rattle.term_base.specs.SameLemmas.{same_variable-true, same_variable-refl}
 use Rattle.term_base.specs.Sorting.{sort, sorts}
 use Rattle.term_base.specs.Trees.{Head, Tree, Trees, var, node, none, more, occurs, any_occurs}
-use Rattle.term_base.specs.Substitution.{put_in, put_all, single}
-use Rattle.term_base.specs.Purity.{IsPure, foreground, any_foreground, foreground_head, ordinary, any_ordinary}
+use Rattle.term_base.specs.Substitution.{put_in, put_all, single, Simple}
+use Rattle.term_base.specs.Purity.{IsPure, is_abstraction, foreground, any_foreground, foreground_head, ordinary, any_ordinary}
 use Rattle.term_base.specs.Weight.{weight, weight_all}
 use Rattle.term_base.specs.TreeLemmas.{true_or_false, both_ways, or-true, or-false, or-left, or-right}
 
@@ -23,6 +23,19 @@ single-same v w t e = let h : same_variable v w ≡ true = ap (same_variable v) 
 
 pub single-other : (v w : Variable) (t : Tree) → ((v ≡ w) → ⊥) → single v t w ≡ var w
 single-other v w t d = let h : same_variable v w ≡ false = elim (true_or_false (same_variable v w)) [ inl p ↦ absurd (d (same_variable-true v w p)) | inr q ↦ q ] in rw h refl
+
+-- one variable goes to a term of its sort, to a pure one where it is an abstraction variable
+pub single-simple : (signature : List Symbol) (v : Variable) (t : Tree) → sort signature t ≡ Some v.sort → (is_abstraction v ≡ true → IsPure signature t) → Simple signature (single v t)
+single-simple signature v t sorted pure = record {
+  sorted = λ w. elim (variable_or_not v w) [
+    | inl e ↦ ap (sort signature) (single-same v w t e) ∙ sorted ∙ ap (λ (u : Variable). Some u.sort) e
+    | inr d ↦ ap (sort signature) (single-other v w t d)
+  ];
+  pure = λ w is. elim (variable_or_not v w) [
+    | inl e ↦ subst (IsPure signature) (sym (single-same v w t e)) (pure (ap is_abstraction e ∙ is))
+    | inr d ↦ subst (IsPure signature) (sym (single-other v w t d)) (record { no_foreground = refl; no_ordinary = ap not is })
+  ];
+}
 
 module _ (r s : Variable → Tree) where
   mutual

@@ -1,21 +1,24 @@
 //! Laws of substitutions, purity, sorts, places and weights. Each is the contract of a function that does
 //! nothing.
 
-ghost use Rattle.std.specs.Prelude.{◌≡◌, ◌≤◌, List, Some, true, false};
+ghost use Rattle.std.specs.Prelude.{◌≡◌, ◌≤◌, ◌↔◌, List, Some, true, false};
 ghost use Rattle.term_base.specs.declared.clauses.Clause.{Clause};
+ghost use Rattle.term_base.specs.declared.clauses.Literal.{Literal};
 ghost use Rattle.term_base.specs.declared.places.Place.{Place};
+ghost use Rattle.term_base.specs.declared.symbols.Sort.TheVariants.{Int};
 ghost use Rattle.term_base.specs.declared.symbols.Symbol.{Symbol};
+ghost use Rattle.term_base.specs.declared.terms.Purity.TheVariants.{Pure, Impure, Foreground};
 ghost use Rattle.term_base.specs.declared.terms.Term.{Term};
 ghost use Rattle.term_base.specs.declared.variables.Variable.{Variable};
-ghost use Rattle.term_base.specs.Trees.{Tree, tree};
+ghost use Rattle.term_base.specs.Trees.{Tree, tree, occurs};
 ghost use Rattle.term_base.specs.Sorting.{sort};
-ghost use Rattle.term_base.specs.Purity.{ordinary, foreign, IsPure};
+ghost use Rattle.term_base.specs.Purity.{purity, foreground, ordinary, foreign, IsPure};
 ghost use Rattle.term_base.specs.Substitution.{put_in, Simple};
-ghost use Rattle.term_base.specs.Lits.{Lit, lits, put_clause, EachLit};
-ghost use Rattle.term_base.specs.Clauses.{is_well_sorted, is_background};
+ghost use Rattle.term_base.specs.Lits.{Lit, lit, lits, put_clause, clause_occurs, EachLit};
+ghost use Rattle.term_base.specs.Clauses.{is_well_sorted, is_background_tree, is_background};
 ghost use Rattle.term_base.specs.Places.{tree_at, replaced};
-ghost use Rattle.term_base.specs.Weight.{weight};
-ghost use Rattle.term_base.specs.Nodes.{nodes};
+ghost use Rattle.term_base.specs.Weight.{weight, lit_weight, clause_weight};
+ghost use Rattle.term_base.specs.Nodes.{nodes, literal_nodes, clause_nodes};
 
 /// One substitution after another is one substitution, whose images are those of the first under the second.
 pub fn substitutions_compose()
@@ -37,6 +40,14 @@ pub fn clauses_stay_well_sorted()
     ensures { (signature : List Symbol) (s : Variable → Tree) → ((v : Variable) → sort signature (s v) ≡ Some v.sort) → (c : List Lit) → is_well_sorted signature (put_clause s c) ≡ is_well_sorted signature c }
 {}
 
+/// The purity of a term says what is in it: Pure neither a foreground symbol nor an ordinary variable, Impure
+/// an ordinary variable alone, Foreground a foreground symbol.
+pub fn purity_says_what_is_in()
+    ensures pure { (signature : List Symbol) (t : Tree) → (purity signature t ≡ Pure) ↔ IsPure signature t }
+    ensures impure { (signature : List Symbol) (t : Tree) → (purity signature t ≡ Impure) ↔ ((foreground signature t ≡ false) × (ordinary t ≡ true)) }
+    ensures foreground { (signature : List Symbol) (t : Tree) → (purity signature t ≡ Foreground) ↔ (foreground signature t ≡ true) }
+{}
+
 /// A simple substitution keeps Pure terms pure.
 pub fn pure_stays_pure()
     ensures { (signature : List Symbol) (s : Variable → Tree) → Simple signature s → (t : Tree) → IsPure signature t → IsPure signature (put_in s t) }
@@ -51,6 +62,25 @@ pub fn abstraction_variables_are_integers()
 /// ordinary variable may go to a foreground term, so other background clauses need not stay.)
 pub fn background_stays_background()
     ensures { (signature : List Symbol) (s : Variable → Tree) → Simple signature s → (c : List Lit) → EachLit (λ l. IsPure signature l.left × IsPure signature l.right) c → is_background signature (put_clause s c) ≡ true }
+{}
+
+/// A term of sort Int without a foreground symbol has variables of sort Int alone.
+pub fn integers_without_foreground_are_background()
+    ensures { (signature : List Symbol) (t : Tree) → sort signature t ≡ Some Int → foreground signature t ≡ false → is_background_tree signature t ≡ true }
+{}
+
+/// A simple substitution keeps a term without foreground symbols and without variables of another sort than
+/// Int such a term, where the variables of the term go to terms without foreground symbols, and only there.
+pub fn background_terms_stay_background()
+    ensures stays { (signature : List Symbol) (s : Variable → Tree) → Simple signature s → (t : Tree) → ((v : Variable) → occurs v t ≡ true → foreground signature (s v) ≡ false) → is_background_tree signature t ≡ true → is_background_tree signature (put_in s t) ≡ true }
+    ensures only { (signature : List Symbol) (s : Variable → Tree) (t : Tree) → is_background_tree signature (put_in s t) ≡ true → (v : Variable) → occurs v t ≡ true → foreground signature (s v) ≡ false }
+{}
+
+/// A simple substitution keeps a background clause a background clause where the variables of the clause
+/// go to terms without foreground symbols, and only there.
+pub fn background_clauses_stay_background()
+    ensures stays { (signature : List Symbol) (s : Variable → Tree) → Simple signature s → (c : List Lit) → ((v : Variable) → clause_occurs v c ≡ true → foreground signature (s v) ≡ false) → is_background signature c ≡ true → is_background signature (put_clause s c) ≡ true }
+    ensures only { (signature : List Symbol) (s : Variable → Tree) (c : List Lit) → is_background signature (put_clause s c) ≡ true → (v : Variable) → clause_occurs v c ≡ true → foreground signature (s v) ≡ false }
 {}
 
 /// A term that was put at a place is there.
@@ -76,6 +106,16 @@ pub fn replacing_commutes()
 /// A term weighs at least as much as it has nodes.
 pub fn weight_counts_nodes()
     ensures { (t : Term) → nodes t ≤ weight (tree t) }
+{}
+
+/// A literal weighs at least as much as it has nodes.
+pub fn literal_weight_counts_nodes()
+    ensures { (l : Literal) → literal_nodes l ≤ lit_weight (lit l) }
+{}
+
+/// A clause weighs at least as much as it has nodes.
+pub fn clause_weight_counts_nodes()
+    ensures { (c : Clause) → clause_nodes c ≤ clause_weight (lits c) }
 {}
 
 /// Terms with one tree are one.

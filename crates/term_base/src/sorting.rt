@@ -20,7 +20,7 @@ fn has_sort(part: Option<Sort>, sort: Sort) -> bool
 }
 
 /// The sorts of a symbol's arguments; none for a parameter past the signature.
-pub fn arity(signature: &[Symbol], f: u32) -> &[Sort]
+fn arity(signature: &[Symbol], f: u32) -> &[Sort]
     ensures { result.now ≡ spec.arity signature.now (symbol f) }
 {
     match signature.get(f as usize) {
@@ -30,7 +30,7 @@ pub fn arity(signature: &[Symbol], f: u32) -> &[Sort]
 }
 
 /// The sort of a symbol's result; Int for a parameter past the signature.
-pub fn result_sort(signature: &[Symbol], f: u32) -> Sort
+fn result_sort(signature: &[Symbol], f: u32) -> Sort
     ensures { result ≡ spec.result_sort signature.now (symbol f) }
 {
     match signature.get(f as usize) {
