@@ -4,7 +4,9 @@ pub mod Sides
 pub mod Rows
 pub mod Children
 pub mod Narrow
+pub mod Bounds
 pub mod Stands
+pub mod Leasts
 pub mod Complete
 pub mod Ground
 pub mod Holds

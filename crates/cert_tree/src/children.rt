@@ -166,7 +166,7 @@ fn replace_all(
 }
 
 /// Each fact with `rest` in place of `b*p`, and that `b` divides `rest`.
-fn with_value(
+pub fn with_value(
     alloc: Global,
     p: u32,
     side: &Side,

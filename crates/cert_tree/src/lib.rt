@@ -7,6 +7,7 @@ mod clauses;
 mod laws;
 mod standing;
 mod sums;
+mod test_points;
 #[cfg(test)]
 mod tests;
 
