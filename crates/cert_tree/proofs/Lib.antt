@@ -11,6 +11,7 @@ pub mod Siding
 pub mod Replacing
 pub mod Numbered
 pub mod Bounding
+pub mod Rowing
 pub mod Narrow
 pub mod Combinations
 pub mod WellFormed

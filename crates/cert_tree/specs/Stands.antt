@@ -10,12 +10,12 @@ use Rattle.lin_base.specs.Whole.{is_same}
 use Rattle.lin_base.specs.Fact.{sum_of, is_false, is_lin}
 use Rattle.lin_base.specs.Steps.{is_narrow}
 use Rattle.cert_tree.specs.declared.certs.Cert.{Cert}
-use Rattle.cert_tree.specs.declared.certs.Row.{Row}
 use Rattle.cert_tree.specs.declared.certs.Tree.{Tree}
 use Rattle.cert_tree.specs.declared.certs.Tree.TheOpen.{Tree-F, Case, Combine, Cut, Branch, Residues, Solve, Least, Clash}
 use Rattle.cert_tree.specs.declared.certs.Tree.TheFolds.{fold-Tree}
 use Rattle.cert_tree.specs.Counting.{is_free, is_over_free}
 use Rattle.cert_tree.specs.Narrow.{some_and, option_then}
+use Rattle.cert_tree.specs.Rows.{extended}
 use Rattle.cert_tree.specs.Children.{with_each, combination, cut_of, branch_facts, residue_children, residues_steps, solve_child, least_children, least_steps}
 
 -- whether a node stands, of the used-up parameters and the facts
@@ -64,13 +64,9 @@ node_stands params clauses (Clash n) used facts = some_and (slice_get facts n) i
 abbrev pub tree_stands : ℕ → List (List Fact) → Tree → Node
 tree_stands params clauses = fold-Tree Node (node_stands params clauses)
 
--- no row stands
-abbrev pub rows_then : List Row → Bool → Bool
-rows_then [] stands = stands
-rows_then (row ∷ rows) stands = false
-
+-- the tree stands over the pool as the rows extend it
 abbrev pub stands : Pool → Cert → Bool
-stands pool cert = rows_then cert.rows (tree_stands pool.params pool.clauses cert.tree [] [])
+stands pool cert = some_and (extended pool.params cert.rows pool.clauses) (λ clauses. tree_stands pool.params clauses cert.tree [] [])
 
 abbrev pub Stands : Pool → Cert → Type 0
 Stands pool cert = IsTrue (stands pool cert)

@@ -144,7 +144,7 @@ fn cut(alloc: Global, fact: &Fact) -> Result<Option<Fact>, AllocError>
 }
 
 /// Each fact with `t` in place of `a*x`.
-fn replace_all(
+pub fn replace_all(
     alloc: Global,
     x: u32,
     a: i128,

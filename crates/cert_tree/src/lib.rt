@@ -5,6 +5,7 @@ mod certs;
 mod children;
 mod clauses;
 mod laws;
+mod rows;
 mod standing;
 mod sums;
 mod test_points;

@@ -14,22 +14,34 @@ use crate::children::{branch_facts, combination, cut_at, residue, solve_child};
 use crate::clauses::{
     clause_at, fact_at, has_lower_bound, is_free, is_open_case, is_over_free, with_used,
 };
+use crate::rows::extended;
 use crate::sums::Side;
 use crate::test_points::{count_within, far, is_count, lower_bound, period, point};
 use lin_base::{Fact, Lin, Pool, is_false, is_lin};
 use sqlite_items::Items;
 use std::alloc::{AllocError, Global};
 
-/// Whether a certificate stands for a pool, so that the pool is true at no values. Nothing is assumed of the certificate: numbers of clauses, facts or parameters that aren't there, wrong counts of children and sums whose unknowns don't ascend make it one that doesn't stand. A certificate with a row stands nowhere.
+/// Whether a certificate stands for a pool, so that the pool is true at no values. Nothing is assumed of the certificate: numbers of clauses, facts, rows or parameters that aren't there, negative multipliers of AtMostZero facts, wrong counts of children and sums whose unknowns don't ascend make it one that doesn't stand. Every number that the rows and the tree form stays in the range.
 pub fn check_unsat(alloc: Global, pool: &Pool, cert: &Cert) -> Result<bool, AllocError>
     requires { IsTrue (is_pool pool.now) }
     ensures { IfOk result (λ yes. yes ≡ stands pool.now cert.now) }
 {
-    if !cert.rows.is_empty() {
-        return Ok(false);
+    if cert.rows.is_empty() {
+        return root_stands(alloc, pool, &cert.tree);
     }
+    match extended(alloc, pool, cert.rows.as_slice())? {
+        Some(longer) => root_stands(alloc, &longer, &cert.tree),
+        None => Ok(false),
+    }
+}
+
+/// Whether a tree stands without any fact.
+fn root_stands(alloc: Global, pool: &Pool, tree: &Tree) -> Result<bool, AllocError>
+    requires { IsTrue (is_pool pool.now) }
+    ensures { IfOk result (λ yes. yes ≡ tree_stands pool.now.params pool.now.clauses tree.now [] []) }
+{
     let mut facts = Items::new(alloc);
-    tree_stands(alloc, pool, &[], &mut facts, &cert.tree)
+    tree_stands(alloc, pool, &[], &mut facts, tree)
 }
 
 /// Whether a tree stands at these used-up parameters and facts. After an Ok the facts are as before.
