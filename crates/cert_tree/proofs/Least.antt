@@ -24,7 +24,7 @@ use Rattle.cert_tree.specs.Children.{Bound, with_value, lower_bound, lower_bound
 use Rattle.cert_tree.proofs.Truth.{Good, EachHolds, SomeHolds, is_proper, some_left, some_right, some_below, with_value_holds, solved_solves, proper_replace, positive_out}
 
 -- ---- the period
-lcm-both : (a b : ℤ) → pos 0 <ℤ a → pos 0 <ℤ b → (pos 0 <ℤ lcm a b) × (divides a (lcm a b) ≡ true) × (divides b (lcm a b) ≡ true)
+pub lcm-both : (a b : ℤ) → pos 0 <ℤ a → pos 0 <ℤ b → (pos 0 <ℤ lcm a b) × (divides a (lcm a b) ≡ true) × (divides b (lcm a b) ≡ true)
 lcm-both (pos a) (pos b) h k = (lcm_positive a b (omega (arith, ints, h)) (omega (arith, ints, k)), lcm-divides_left a b, lcm-divides_right a b)
 lcm-both (negsuc a) b h k = absurd (omega (arith, ints, h))
 lcm-both (pos a) (negsuc b) h k = absurd (omega (arith, ints, k))

@@ -5,9 +5,13 @@ pub mod Truth
 pub mod Least
 pub mod Sound
 pub mod RowsSound
+pub mod Periods
+pub mod Pointing
 pub mod Siding
 pub mod Replacing
 pub mod Numbered
+pub mod Bounding
+pub mod Rowing
 pub mod Narrow
 pub mod Combinations
 pub mod WellFormed

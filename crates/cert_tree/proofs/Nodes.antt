@@ -35,7 +35,7 @@ module _ (params : ℕ) (clauses : List (List Fact)) (used : List ℕ) (facts : 
   pub stands-solve : (n p : ℕ) (t : Tree) → tree_stands params clauses (roll-Tree (Solve n p t)) used facts ≡ some_and (solve_child facts n p) (tree_stands params clauses t (p ∷ used))
   stands-solve n p t = ap (λ (node : Node). node used facts) (fold-roll-Tree Node (node_stands params clauses) (Solve n p t))
 
-  pub stands-least : (p : ℕ) (ts : List Tree) → tree_stands params clauses (roll-Tree (Least p ts)) used facts ≡ false
+  pub stands-least : (p : ℕ) (ts : List Tree) → tree_stands params clauses (roll-Tree (Least p ts)) used facts ≡ is_free params used p && (is_narrow (least_steps p facts) && each_stands (p ∷ used) (map (tree_stands params clauses) ts) (least_children p facts))
   stands-least p ts = ap (λ (node : Node). node used facts) (fold-roll-Tree Node (node_stands params clauses) (Least p ts))
 
   pub stands-clash : (n : ℕ) → tree_stands params clauses (roll-Tree (Clash n)) used facts ≡ some_and (slice_get facts n) is_false

@@ -34,6 +34,39 @@ module _ (steps : ℕ → List Wide) (state : ℕ → List Fact) (used : List �
       ∙ ap (λ b. b && (node t used (state i) && rest)) narrow
       ∙ ap (λ b. b && rest) stood
 
+  -- the first child stands
+  pub numbered_next : {A : Type 0} (node : Tree → Node) (us vs : List Tree) (i : ℕ) (t : Tree) (o : Option A) (x y : A) → us ≡ t ∷ vs
+      → o ≡ if_narrow (steps i) x → o ≡ Some y → node t used (state i) ≡ true
+      → numbered_stand steps state used i (map node us) ≡ numbered_stand steps state used (i + 1) (map node vs)
+  numbered_next node us vs i t o x y cons is some stood =
+      let narrow = (if_narrow_out (steps i) x y (sym is ∙ some)).0 in
+      let rest = numbered_stand steps state used (i + 1) (map node vs) in
+      ap (λ ws. numbered_stand steps state used i (map node ws)) cons
+      ∙ ap (λ b. b && (node t used (state i) && rest)) narrow
+      ∙ ap (λ b. b && rest) stood
+
+  -- a step of the first child leaves the range
+  pub numbered_wide : {A : Type 0} (node : Tree → Node) (us vs : List Tree) (i : ℕ) (t : Tree) (o : Option A) (x : A) → us ≡ t ∷ vs
+      → o ≡ if_narrow (steps i) x → o ≡ None → numbered_stand steps state used i (map node us) ≡ false
+  numbered_wide {A} node us vs i t o x cons is none =
+      ap (λ ws. numbered_stand steps state used i (map node ws)) cons ∙ by_steps (is_narrow (steps i)) (sym is ∙ none)
+    where
+      by_steps : (b : Bool) → cond b (Some x) None ≡ None → (b && (node t used (state i) && numbered_stand steps state used (i + 1) (map node vs))) ≡ false
+      by_steps true h = absurd (cc)
+      by_steps false h = refl
+
+  -- the first child doesn't stand
+  pub numbered_not : (node : Tree → Node) (us vs : List Tree) (i : ℕ) (t : Tree) → us ≡ t ∷ vs
+      → node t used (state i) ≡ false → numbered_stand steps state used i (map node us) ≡ false
+  numbered_not node us vs i t cons fell =
+      ap (λ ws. numbered_stand steps state used i (map node ws)) cons
+      ∙ ap (λ b. is_narrow (steps i) && (b && numbered_stand steps state used (i + 1) (map node vs))) fell
+      ∙ last_false (is_narrow (steps i))
+    where
+      last_false : (b : Bool) → (b && false) ≡ false
+      last_false true = refl
+      last_false false = refl
+
   swap_and : (a b c d : Bool) → (a && (b && (c && d))) ≡ ((a && c) && (b && d))
   swap_and true true c d = refl
   swap_and true false true d = refl

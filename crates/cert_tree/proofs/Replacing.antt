@@ -57,17 +57,17 @@ pub replaced-drop : (x : ℕ) (a : ℤ) (t : Lin) (facts : List Fact) (i : ℕ) 
 replaced-drop x a t facts i d h = at_drop_more (map (replace x a t)) facts i d h
 
 -- ---- well-formed facts
-each_replaced : (x : ℕ) (a : ℤ) (t : Lin) → pos 1 ≤ℤ a → is_lin t ≡ true → (facts : List Fact) → list_all is_fact facts ≡ true → list_all is_fact (map (replace x a t) facts) ≡ true
+pub each_replaced : (x : ℕ) (a : ℤ) (t : Lin) → pos 1 ≤ℤ a → is_lin t ≡ true → (facts : List Fact) → list_all is_fact facts ≡ true → list_all is_fact (map (replace x a t) facts) ≡ true
 each_replaced x a t h is [] all = refl
 each_replaced x a t h is (f ∷ fs) all =
     let both = and_parts (is_fact f) (list_all is_fact fs) all in
     and_from _ _ (is_fact-replace x a t f h is both.0) (each_replaced x a t h is fs both.1)
 
-all-append : (xs ys : List Fact) → list_all is_fact xs ≡ true → list_all is_fact ys ≡ true → list_all is_fact (xs ++ ys) ≡ true
+pub all-append : (xs ys : List Fact) → list_all is_fact xs ≡ true → list_all is_fact ys ≡ true → list_all is_fact (xs ++ ys) ≡ true
 all-append [] ys h k = k
 all-append (x ∷ xs) ys h k = let both = and_parts (is_fact x) (list_all is_fact xs) h in and_from _ _ both.0 (all-append xs ys both.1 k)
 
-two_up : (b : ℤ) → pos 1 ≤ℤ b → is_same b (pos 1) ≡ false → pos 2 ≤ℤ b
+pub two_up : (b : ℤ) → pos 1 ≤ℤ b → is_same b (pos 1) ≡ false → pos 2 ≤ℤ b
 two_up b h n = elim (cases_Bool (int_le (pos 2) b)) [
   | inl two ↦ omega (arith, ints, two)
   | inr low ↦ let e : b ≡ pos 1 = omega (arith, ints, low) in absurd (true≢false (sym (same_one b e) ∙ n))
@@ -85,19 +85,19 @@ is_fact-with_value p b s facts h is all = all-append (map (replace p b s) facts)
 pub ruleset replacing = (forming, is_fact-with_value)
 
 -- ---- b*p = s
-positive_side : (p : ℕ) (t : Lin) → is_zero (coef p t) ≡ false → pos 1 ≤ℤ (made_positive p t).b
+pub positive_side : (p : ℕ) (t : Lin) → is_zero (coef p t) ≡ false → pos 1 ≤ℤ (made_positive p t).b
 positive_side p t n = elim (cases_Bool (int_lt (coef p t) (pos 0))) [
   | inl low ↦ rw low (omega (arith, ints, low))
   | inr high ↦ rw high (let up = positive_from (coef p t) high n in omega (arith, ints, up))
 ]
 
-absent_side : (p : ℕ) (t : Lin) → occurs p (made_positive p t).rest ≡ false
+pub absent_side : (p : ℕ) (t : Lin) → occurs p (made_positive p t).rest ≡ false
 absent_side p t = elim (cases_Bool (int_lt (coef p t) (pos 0))) [
   | inl low ↦ rw low (occurs-negated p (without p t) (occurs-without p t))
   | inr high ↦ rw high (occurs-without p t)
 ]
 
-is_lin_side : (p : ℕ) (t : Lin) → is_lin t ≡ true → is_lin (made_positive p t).rest ≡ true
+pub is_lin_side : (p : ℕ) (t : Lin) → is_lin t ≡ true → is_lin (made_positive p t).rest ≡ true
 is_lin_side p t is = elim (cases_Bool (int_lt (coef p t) (pos 0))) [
   | inl low ↦ rw low (is_lin-negated (without p t) (is_lin-without p t is))
   | inr high ↦ rw high (is_lin-without p t is)

@@ -21,10 +21,10 @@ use Rattle.lin_base.specs.declared.facts.Pool.{Pool}
 use Rattle.lin_base.specs.Fact.{Impossible}
 use Rattle.cert_tree.specs.declared.certs.Cert.{Cert}
 use Rattle.cert_tree.specs.Points.{period}
-use Rattle.cert_tree.specs.Rows.{clause_of}
-use Rattle.cert_tree.specs.Stands.{Stands, tree_stands, rows_then}
+use Rattle.cert_tree.specs.Rows.{clause_of, extended}
+use Rattle.cert_tree.specs.Stands.{Stands, tree_stands}
 use Rattle.cert_tree.proofs.Sound.{tree_sound}
-use Rattle.cert_tree.proofs.Truth.{some_and_out, all_at, all_snoc, positive_out}
+use Rattle.cert_tree.proofs.Truth.{some_and_out, option_then_out, all_at, all_snoc, positive_out}
 use Rattle.cert_tree.specs.declared.certs.Row.{Row}
 use Rattle.cert_tree.specs.declared.certs.Row.TheVariants.{Inst, Low}
 use Rattle.cert_tree.specs.Points.{not_divides_part}
@@ -251,6 +251,29 @@ row_on_out : (params : ℕ) (row : Row) (clause new : List Fact) (b : Bool) → 
 row_on_out params row clause new true e is = ((and_parts _ _ e).0, cc)
 row_on_out params row clause new false e is = absurd (cc)
 
+-- ---- the rows, one after the other
+module _ (params : ℕ) (p : Valuation) where
+  abbrev AllTrue : List (List Fact) → Type 0
+  AllTrue clauses = AllByRecursion (ClauseHoldsAt params p) clauses
+
+  abbrev AllProper : List (List Fact) → Type 0
+  AllProper clauses = AllByRecursion EachProper clauses
+
+  row_over_out : (row : Row) (clauses : List (List Fact)) (new : List Fact) (c : Option (List Fact)) → slice_get clauses (clause_of row) ≡ c → row_on params row c ≡ Some new → AllTrue clauses → AllProper clauses → ClauseHoldsAt params p new × EachProper new
+  row_over_out row clauses new None at_ is holds_ proper = absurd (cc)
+  row_over_out row clauses new (Some clause) at_ is holds_ proper =
+      let o = row_on_out params row clause new (row_stands_on params clause row) refl is in
+      let ok = all_at (ClauseHoldsAt params p) clauses (clause_of row) clause holds_ at_ in
+      let pr = all_at EachProper clauses (clause_of row) clause proper at_ in
+      (subst (ClauseHoldsAt params p) o.1 (row_sound params p clause row o.0 pr ok), subst EachProper o.1 (row_proper params clause row o.0 pr))
+
+  rows_sound : (rows : List Row) (clauses more : List (List Fact)) → AllTrue clauses → AllProper clauses → extended params rows clauses ≡ Some more → AllTrue more × AllProper more
+  rows_sound [] clauses more holds_ proper e = let same : clauses ≡ more = cc in subst (λ cs. AllTrue cs × AllProper cs) same (holds_, proper)
+  rows_sound (row ∷ rows) clauses more holds_ proper e =
+      let o = option_then_out (row_over params clauses row) (λ clause. extended params rows (clauses ++ clause ∷ [])) more e in
+      let s = row_over_out row clauses o.0 (slice_get clauses (clause_of row)) refl o.1 holds_ proper in
+      rows_sound rows (clauses ++ o.0 ∷ []) more (all_snoc (ClauseHoldsAt params p) clauses o.0 holds_ s.0) (all_snoc EachProper clauses o.0 proper s.1) o.2
+
 each_list_all : (clause : List Fact) → EachProper clause → list_all is_proper clause ≡ true
 each_list_all [] all = refl
 each_list_all (f ∷ fs) all = and_from _ _ all.0 (each_list_all fs all.1)
@@ -260,11 +283,9 @@ lists_all [] all = tt
 lists_all (c ∷ cs) all = (each_list_all c all.0, lists_all cs all.1)
 
 -- ---- a certificate that stands
-rows_then_out : (rows : List Row) (b : Bool) → rows_then rows b ≡ true → b ≡ true
-rows_then_out [] b e = e
-rows_then_out (row ∷ rows) b e = absurd (false≢true e)
-
 -- a pool with a certificate that stands is impossible, where moduli are at least 1
 pub stands_impossible : (pool : Pool) (cert : Cert) → AllByRecursion EachProper pool.clauses → Stands pool cert → Impossible pool
 stands_impossible pool cert proper e p holds_ =
-    tree_sound pool.params pool.clauses p holds_ (lists_all pool.clauses proper) cert.tree [] [] (rows_then_out cert.rows (tree_stands pool.params pool.clauses cert.tree [] []) e) p (λ x _. refl) tt
+    let o = some_and_out (extended pool.params cert.rows pool.clauses) (λ clauses. tree_stands pool.params clauses cert.tree [] []) e in
+    let s = rows_sound pool.params p cert.rows pool.clauses o.0 holds_ proper o.1 in
+    tree_sound pool.params o.0 p s.0 (lists_all o.0 s.1) cert.tree [] [] o.2 p (λ x _. refl) tt

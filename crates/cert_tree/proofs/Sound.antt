@@ -98,7 +98,12 @@ module _ (params : ℕ) (clauses : List (List Fact)) (p : Valuation) (pool_holds
   node_sound (Solve n q kid) used facts e v agree all =
       let o = some_and_out _ _ (sym (stands-solve params clauses used facts n q kid.0) ∙ e) in
       kid.1 (q ∷ used) o.0 o.2 v (agrees_more used q v agree) (solve_child_holds v facts n q o.0 o.1 all)
-  node_sound (Least q kids) used facts e v agree all = false≢true (sym (stands-least params clauses used facts q (map (λ k. k.0) kids)) ∙ e)
+  node_sound (Least q kids) used facts e v agree all =
+      let w = sym (stands-least params clauses used facts q (map (λ k. k.0) kids)) ∙ e in
+      let a = and_parts _ _ w in
+      let b = and_parts _ _ a.1 in
+      let found = least_some v q facts all in
+      children_sound kids (least_children q facts) (q ∷ used) b.1 (assigned q found.0 v) (agrees_assigned used q v agree found.0) found.1
   node_sound (Clash n) used facts e v agree all =
       let o = some_and_out _ _ (sym (stands-clash params clauses used facts n) ∙ e) in
       clash_false v o.0 o.2 (all_at (Good v) facts n o.0 all o.1).0

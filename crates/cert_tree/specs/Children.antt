@@ -10,7 +10,7 @@ use Rattle.lin_base.specs.Fact.{is_lin}
 use Rattle.lin_base.specs.Sum.{coef, occurs, negated, add_number, number}
 use Rattle.lin_base.specs.Change.{replace, tight}
 use Rattle.lin_base.specs.Combine.{add_scaled, add_scaled_steps, combined, combined_steps}
-use Rattle.lin_base.specs.Steps.{is_narrow, multiplies, negated_steps, add_number_steps, replace_all_steps}
+use Rattle.lin_base.specs.Steps.{is_narrow, multiplies, negated_steps, add_number_steps, replace_steps, replace_all_steps}
 use Rattle.cert_tree.specs.Counting.{numbers_below, is_over_free}
 use Rattle.cert_tree.specs.Narrow.{option_then, if_narrow}
 use Rattle.cert_tree.specs.Points.{Side, period, period_steps, solved, below, divides_part}
@@ -106,26 +106,47 @@ pub record Bound : Type 0 where
   pub count_steps : List Wide
 
 -- of an AtMostZero fact a*D children, of a Zero fact one
+abbrev pub below_bound : ℕ → ℤ → Lin → Bound
+below_bound p d t = record { side = below p t; children = (below p t).b *ℤ d; count_steps = multiplies (below p t).b d ∷ [] }
+
+abbrev pub solved_bound : ℕ → Lin → Bound
+solved_bound p t = record { side = solved p t; children = pos 1; count_steps = [] }
+
 abbrev pub lower_bound : ℕ → ℤ → Fact → Option Bound
-lower_bound p d (AtMostZero t) =
-    if int_lt (coef p t) (pos 0)
-    then Some (record { side = below p t; children = (below p t).b *ℤ d; count_steps = multiplies (below p t).b d ∷ [] })
-    else None
-lower_bound p d (Zero t) =
-    if is_zero (coef p t) then None else Some (record { side = solved p t; children = pos 1; count_steps = [] })
+lower_bound p d (AtMostZero t) = if int_lt (coef p t) (pos 0) then Some (below_bound p d t) else None
+lower_bound p d (Zero t) = if is_zero (coef p t) then None else Some (solved_bound p t)
 lower_bound p d _ = None
+
+abbrev pub below_steps : ℕ → ℤ → Lin → List Wide
+below_steps p d t = (below p t).steps ++ multiplies (below p t).b d ∷ []
+
+-- the steps of a bound before its first child
+abbrev pub bound_steps_of : Option Bound → List Wide
+bound_steps_of None = []
+bound_steps_of (Some e) = e.side.steps ++ e.count_steps
+
+-- in a child every fact goes by s + j in place of a*p
+abbrev pub point : ℕ → List Fact → ℤ → Lin → ℕ → List Fact
+point p facts a s j = with_value p a (add_number s (pos j)) facts
+
+-- s + j, then the facts in order
+abbrev pub point_steps : ℕ → List Fact → ℤ → Lin → ℕ → List Wide
+point_steps p facts a s j = add_number_steps s (pos j) ++ replace_all_steps p a (add_number s (pos j)) facts
 
 abbrev pub bound_children : ℕ → List Fact → Bound → List (List Fact)
 bound_children p facts e =
-    map (λ j. with_value p e.side.b (add_number e.side.rest (pos j)) facts) (numbers_below e.children)
+    map (point p facts e.side.b e.side.rest) (numbers_below e.children)
 
 -- without a lower bound: AtMostZero facts with p hold far down
 abbrev pub far_down : ℕ → ℕ → Fact → Fact
 far_down p j (AtMostZero t) = if occurs p t then AtMostZero (number (pos 0)) else AtMostZero t
 far_down p j f = replace p (pos 1) (number (pos j)) f
 
+abbrev pub far_child : ℕ → List Fact → ℕ → List Fact
+far_child p facts j = map (far_down p j) facts
+
 abbrev pub far_children : ℕ → List Fact → List (List Fact)
-far_children p facts = map (λ j. map (far_down p j) facts) (numbers_below (period p facts))
+far_children p facts = map (far_child p facts) (numbers_below (period p facts))
 
 abbrev pub lower_bounds : ℕ → List Fact → List Bound
 lower_bounds p facts = filter_map (lower_bound p (period p facts)) facts
@@ -138,20 +159,18 @@ children_by p facts (e ∷ es) = flat_map (bound_children p facts) (e ∷ es)
 abbrev pub least_children : ℕ → List Fact → List (List Fact)
 least_children p facts = children_by p facts (lower_bounds p facts)
 
--- the steps of a test point: s + j, then the facts in order
-abbrev pub point_steps : ℕ → List Fact → Side → ℕ → List Wide
-point_steps p facts e j =
-    add_number_steps e.rest (pos j) ++ replace_all_steps p e.b (add_number e.rest (pos j)) facts
-
 abbrev pub bound_steps : ℕ → List Fact → Bound → List Wide
-bound_steps p facts e = e.side.steps ++ e.count_steps ++ flat_map (point_steps p facts e.side) (numbers_below e.children)
+bound_steps p facts e = e.side.steps ++ e.count_steps ++ flat_map (point_steps p facts e.side.b e.side.rest) (numbers_below e.children)
 
 abbrev pub far_down_steps : ℕ → ℕ → Fact → List Wide
 far_down_steps p j (AtMostZero t) = []
-far_down_steps p j f = replace_all_steps p (pos 1) (number (pos j)) (f ∷ [])
+far_down_steps p j f = replace_steps p (pos 1) (number (pos j)) f
+
+abbrev pub far_child_steps : ℕ → List Fact → ℕ → List Wide
+far_child_steps p facts j = flat_map (far_down_steps p j) facts
 
 abbrev pub far_steps : ℕ → List Fact → List Wide
-far_steps p facts = flat_map (λ j. flat_map (far_down_steps p j) facts) (numbers_below (period p facts))
+far_steps p facts = flat_map (far_child_steps p facts) (numbers_below (period p facts))
 
 abbrev pub steps_by : ℕ → List Fact → List Bound → List Wide
 steps_by p facts [] = far_steps p facts

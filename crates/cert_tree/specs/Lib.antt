@@ -1,10 +1,12 @@
 pub mod Counting
 pub mod Points
 pub mod Sides
+pub mod Narrow
 pub mod Rows
 pub mod Children
-pub mod Narrow
+pub mod Bounds
 pub mod Stands
+pub mod Leasts
 pub mod Complete
 pub mod Ground
 pub mod Holds

@@ -28,6 +28,15 @@ abbrev pub lcm_onto_steps : ℤ → List ℤ → List Wide
 lcm_onto_steps so_far [] = []
 lcm_onto_steps so_far (m ∷ ms) = lcm_steps so_far m ++ lcm_onto_steps (lcm so_far m) ms
 
+-- the next multiple, and its steps, where the fact has a modulus
+abbrev pub next_period : ℤ → Option ℤ → ℤ
+next_period so_far None = so_far
+next_period so_far (Some m) = lcm so_far m
+
+abbrev pub next_period_steps : ℤ → Option ℤ → List Wide
+next_period_steps so_far None = []
+next_period_steps so_far (Some m) = lcm_steps so_far m
+
 abbrev pub period_steps : ℕ → List Fact → List Wide
 period_steps x facts = lcm_onto_steps (pos 1) (filter_map (modulus_at x) facts)
 

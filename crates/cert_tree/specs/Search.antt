@@ -104,7 +104,7 @@ abbrev pub bound_child : ℕ → List Fact → Bound → ℕ → Child
 bound_child p facts e j =
     let s = add_number e.side.rest (pos j) in
     giving p (λ v. div_floor (value v s) e.side.b) (λ v. results (value_steps v s))
-    (results ((if j == 0 then e.side.steps ++ e.count_steps else []) ++ point_steps p facts e.side j)) (with_value p e.side.b s facts)
+    (results ((if j == 0 then e.side.steps ++ e.count_steps else []) ++ point_steps p facts e.side.b e.side.rest j)) (with_value p e.side.b s facts)
 
 -- the greatest number at which the AtMostZero fact with p holds
 abbrev pub top_of : ℕ → Valuation → Fact → Option ℤ

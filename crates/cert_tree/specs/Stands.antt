@@ -10,13 +10,13 @@ use Rattle.lin_base.specs.Whole.{is_same}
 use Rattle.lin_base.specs.Fact.{sum_of, is_false, is_lin}
 use Rattle.lin_base.specs.Steps.{is_narrow}
 use Rattle.cert_tree.specs.declared.certs.Cert.{Cert}
-use Rattle.cert_tree.specs.declared.certs.Row.{Row}
 use Rattle.cert_tree.specs.declared.certs.Tree.{Tree}
 use Rattle.cert_tree.specs.declared.certs.Tree.TheOpen.{Tree-F, Case, Combine, Cut, Branch, Residues, Solve, Least, Clash}
 use Rattle.cert_tree.specs.declared.certs.Tree.TheFolds.{fold-Tree}
-use Rattle.cert_tree.specs.Counting.{is_over_free}
+use Rattle.cert_tree.specs.Counting.{is_free, is_over_free}
 use Rattle.cert_tree.specs.Narrow.{some_and, option_then}
-use Rattle.cert_tree.specs.Children.{with_each, combination, cut_of, branch_facts, residue_children, residues_steps, solve_child}
+use Rattle.cert_tree.specs.Rows.{extended}
+use Rattle.cert_tree.specs.Children.{with_each, combination, cut_of, branch_facts, residue_children, residues_steps, solve_child, least_children, least_steps}
 
 -- whether a node stands, of the used-up parameters and the facts
 abbrev pub Node : Type 0
@@ -42,7 +42,11 @@ residues_stand params m t children used facts =
     int_le (pos 2) m && is_lin t && is_over_free params used t && is_same (pos (length children)) m
     && (is_narrow (residues_steps m t) && each_stands used children (residue_children facts m t))
 
--- the conditions of each node, and what its children have to show; no Least stands
+abbrev pub least_stands : ℕ → ℕ → List Node → Node
+least_stands params p children used facts =
+    is_free params used p && (is_narrow (least_steps p facts) && each_stands (p ∷ used) children (least_children p facts))
+
+-- the conditions of each node, and what its children have to show
 abbrev pub node_stands : ℕ → List (List Fact) → Tree-F Node → Node
 node_stands params clauses (Case n children) used facts =
     some_and (slice_get clauses n) (λ clause. is_open_case params used clause && each_stands used children (with_each facts clause))
@@ -54,19 +58,15 @@ node_stands params clauses (Branch t left right) used facts =
     some_and (branch_facts params used t) (λ both. left used (facts ++ both.0 ∷ []) && right used (facts ++ both.1 ∷ []))
 node_stands params clauses (Residues m t children) used facts = residues_stand params m t children used facts
 node_stands params clauses (Solve n p child) used facts = some_and (solve_child facts n p) (child (p ∷ used))
-node_stands params clauses (Least p children) used facts = false
+node_stands params clauses (Least p children) used facts = least_stands params p children used facts
 node_stands params clauses (Clash n) used facts = some_and (slice_get facts n) is_false
 
 abbrev pub tree_stands : ℕ → List (List Fact) → Tree → Node
 tree_stands params clauses = fold-Tree Node (node_stands params clauses)
 
--- no row stands
-abbrev pub rows_then : List Row → Bool → Bool
-rows_then [] stands = stands
-rows_then (row ∷ rows) stands = false
-
+-- the tree stands over the pool as the rows extend it
 abbrev pub stands : Pool → Cert → Bool
-stands pool cert = rows_then cert.rows (tree_stands pool.params pool.clauses cert.tree [] [])
+stands pool cert = some_and (extended pool.params cert.rows pool.clauses) (λ clauses. tree_stands pool.params clauses cert.tree [] [])
 
 abbrev pub Stands : Pool → Cert → Type 0
 Stands pool cert = IsTrue (stands pool cert)

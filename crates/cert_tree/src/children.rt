@@ -144,7 +144,7 @@ fn cut(alloc: Global, fact: &Fact) -> Result<Option<Fact>, AllocError>
 }
 
 /// Each fact with `t` in place of `a*x`.
-fn replace_all(
+pub fn replace_all(
     alloc: Global,
     x: u32,
     a: i128,
@@ -166,7 +166,7 @@ fn replace_all(
 }
 
 /// Each fact with `rest` in place of `b*p`, and that `b` divides `rest`.
-fn with_value(
+pub fn with_value(
     alloc: Global,
     p: u32,
     side: &Side,

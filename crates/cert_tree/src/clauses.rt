@@ -1,13 +1,14 @@
 //! Facts and clauses as the nodes of a certificate ask for them.
 
 ghost use Rattle.std.specs.Prelude.{◌≡◌, IsTrue, IfOk, IfSome, ◌∷◌, slice_get};
-ghost use Rattle.std.specs.List.{list_all};
+ghost use Rattle.std.specs.List.{list_all, list_any};
 ghost use Rattle.std.specs.Option.{option_copied};
 ghost use Rattle.lin_base.specs.Fact.{is_fact, is_pool};
 ghost use Rattle.cert_tree.specs.Counting as spec;
 ghost use Rattle.cert_tree.specs.Stands.{is_open_case};
+ghost use Rattle.cert_tree.specs.Leasts.{is_lower_bound};
 
-use lin_base::{Fact, Lin, Pool};
+use lin_base::{Fact, Lin, Pool, coef};
 use sqlite_items::Items;
 use std::alloc::{AllocError, Global};
 
@@ -77,4 +78,29 @@ pub fn is_open_case(params: u32, used: &[u32], clause: &[Fact]) -> bool
         }
     }
     true
+}
+
+/// Whether a fact is a lower bound of `p`.
+fn is_lower_bound(p: u32, fact: &Fact) -> bool
+    requires { IsTrue (is_fact fact.now) }
+    ensures { result ≡ is_lower_bound p fact.now }
+{
+    match fact {
+        Fact::AtMostZero(t) => coef(p, t) < 0,
+        Fact::Zero(t) => coef(p, t) != 0,
+        _ => false,
+    }
+}
+
+/// Whether some fact is a lower bound of `p`.
+pub fn has_lower_bound(p: u32, facts: &[Fact]) -> bool
+    requires { IsTrue (list_all is_fact facts.now) }
+    ensures { result ≡ list_any (is_lower_bound p) facts.now }
+{
+    for fact in facts {
+        if is_lower_bound(p, fact) {
+            return true;
+        }
+    }
+    false
 }

@@ -5,8 +5,10 @@ mod certs;
 mod children;
 mod clauses;
 mod laws;
+mod rows;
 mod standing;
 mod sums;
+mod test_points;
 #[cfg(test)]
 mod tests;
 

@@ -1,29 +1,47 @@
 //! The check of certificates.
 
-ghost use Rattle.std.specs.Prelude.{◌≡◌, ◌≤ℤ◌, ◌&&◌, ◌++◌, ◌∷◌, [], pos, length, IfOk, OnOk, IsTrue, map};
+ghost use Rattle.std.specs.Prelude.{◌≡◌, ◌≤◌, ◌+◌, ◌≤ℤ◌, ◌&&◌, ◌++◌, ◌∷◌, [], pos, length, take, drop, IfOk, IfSome, OnOk, IsTrue, map};
 ghost use Rattle.std.specs.List.{list_all};
 ghost use Rattle.lin_base.specs.Fact.{is_fact, is_lin, is_pool};
 ghost use Rattle.lin_base.specs.Steps.{is_narrow};
 ghost use Rattle.cert_tree.specs.Children as spec;
-ghost use Rattle.cert_tree.specs.Stands.{tree_stands, each_stands, numbered_stand, stands, residues_stand};
+ghost use Rattle.cert_tree.specs.Stands.{tree_stands, each_stands, numbered_stand, stands, residues_stand, least_stands};
+ghost use Rattle.cert_tree.specs.Leasts.{points_stand, bound_stands, bounds_stand};
+ghost use Rattle.cert_tree.specs.Bounds.{is_side};
 
 use crate::certs::{Cert, Tree};
 use crate::children::{branch_facts, combination, cut_at, residue, solve_child};
-use crate::clauses::{clause_at, fact_at, is_open_case, is_over_free, with_used};
+use crate::clauses::{
+    clause_at, fact_at, has_lower_bound, is_free, is_open_case, is_over_free, with_used,
+};
+use crate::rows::extended;
+use crate::sums::Side;
+use crate::test_points::{count_within, far, is_count, lower_bound, period, point};
 use lin_base::{Fact, Lin, Pool, is_false, is_lin};
 use sqlite_items::Items;
 use std::alloc::{AllocError, Global};
 
-/// Whether a certificate stands for a pool, so that the pool is true at no values. Nothing is assumed of the certificate: numbers of clauses, facts or parameters that aren't there, wrong counts of children and sums whose unknowns don't ascend make it one that doesn't stand. A certificate with a row or with a node Least stands nowhere.
+/// Whether a certificate stands for a pool, so that the pool is true at no values. Nothing is assumed of the certificate: numbers of clauses, facts, rows or parameters that aren't there, negative multipliers of AtMostZero facts, wrong counts of children and sums whose unknowns don't ascend make it one that doesn't stand. Every number that the rows and the tree form stays in the range.
 pub fn check_unsat(alloc: Global, pool: &Pool, cert: &Cert) -> Result<bool, AllocError>
     requires { IsTrue (is_pool pool.now) }
     ensures { IfOk result (λ yes. yes ≡ stands pool.now cert.now) }
 {
-    if !cert.rows.is_empty() {
-        return Ok(false);
+    if cert.rows.is_empty() {
+        return root_stands(alloc, pool, &cert.tree);
     }
+    match extended(alloc, pool, cert.rows.as_slice())? {
+        Some(longer) => root_stands(alloc, &longer, &cert.tree),
+        None => Ok(false),
+    }
+}
+
+/// Whether a tree stands without any fact.
+fn root_stands(alloc: Global, pool: &Pool, tree: &Tree) -> Result<bool, AllocError>
+    requires { IsTrue (is_pool pool.now) }
+    ensures { IfOk result (λ yes. yes ≡ tree_stands pool.now.params pool.now.clauses tree.now [] []) }
+{
     let mut facts = Items::new(alloc);
-    tree_stands(alloc, pool, &[], &mut facts, &cert.tree)
+    tree_stands(alloc, pool, &[], &mut facts, tree)
 }
 
 /// Whether a tree stands at these used-up parameters and facts. After an Ok the facts are as before.
@@ -90,7 +108,14 @@ fn tree_stands(
                 None => Ok(false),
             }
         }
-        Tree::Least { .. } => Ok(false),
+        Tree::Least { p, children } => least_stands(
+            alloc,
+            pool,
+            used,
+            facts.as_slice(),
+            *p,
+            children.as_slice(),
+        ),
         Tree::Clash { fact } => match fact_at(facts.as_slice(), *fact) {
             Some(fact) => Ok(is_false(fact)),
             None => Ok(false),
@@ -204,4 +229,161 @@ fn each_residue_stands(
         }
     }
     Ok(true)
+}
+
+/// Whether `p` is a parameter that isn't used up, and there is one child for each of its test points, which stands there.
+#[cycle(tree_stands)]
+fn least_stands(
+    alloc: Global,
+    pool: &Pool,
+    used: &[u32],
+    facts: &[Fact],
+    p: u32,
+    children: &[Tree],
+) -> Result<bool, AllocError>
+    requires pool_is { IsTrue (is_pool pool.now) }
+    requires facts_are { IsTrue (list_all is_fact facts.now) }
+    ensures { IfOk result (λ yes. yes ≡ least_stands pool.now.params p (map (tree_stands pool.now.params pool.now.clauses) children.now) used.now facts.now) }
+{
+    if !is_free(pool.params, used, p) {
+        return Ok(false);
+    }
+    let Some(d) = period(p, facts)? else {
+        return Ok(false);
+    };
+    let used = with_used(alloc, used, p)?;
+    if has_lower_bound(p, facts) {
+        return bounds_stand(alloc, pool, used.as_slice(), facts, p, &d, children);
+    }
+    if !is_count(&d, children.len()) {
+        return Ok(false);
+    }
+    far_stand(alloc, pool, used.as_slice(), facts, p, children)
+}
+
+/// Whether each child stands where `p` is far down and its number modulo the period.
+#[cycle(tree_stands)]
+fn far_stand(
+    alloc: Global,
+    pool: &Pool,
+    used: &[u32],
+    facts: &[Fact],
+    p: u32,
+    children: &[Tree],
+) -> Result<bool, AllocError>
+    requires pool_is { IsTrue (is_pool pool.now) }
+    requires facts_are { IsTrue (list_all is_fact facts.now) }
+    ensures { IfOk result (λ yes. yes ≡ numbered_stand (spec.far_child_steps p facts.now) (spec.far_child p facts.now) used.now 0 (map (tree_stands pool.now.params pool.now.clauses) children.now)) }
+{
+    for (j, child) in children.iter().enumerate() {
+        let Some(mut made) = far(alloc, p, j, facts)? else {
+            return Ok(false);
+        };
+        if !tree_stands(alloc, pool, used, &mut made, child)? {
+            return Ok(false);
+        }
+    }
+    Ok(true)
+}
+
+/// Whether the children from `start` on, as many as `count`, stand at the first test points of a lower bound.
+#[cycle(tree_stands)]
+fn points_stand(
+    alloc: Global,
+    pool: &Pool,
+    used: &[u32],
+    facts: &[Fact],
+    p: u32,
+    side: &Side,
+    children: &[Tree],
+    start: usize,
+    count: usize,
+) -> Result<bool, AllocError>
+    requires pool_is { IsTrue (is_pool pool.now) }
+    requires facts_are { IsTrue (list_all is_fact facts.now) }
+    requires side_is { IsTrue (is_side p side.now) }
+    requires within { start + count ≤ length children.now }
+    ensures { IfOk result (λ yes. yes ≡ points_stand p facts.now used.now side.now.b side.now.rest (map (tree_stands pool.now.params pool.now.clauses) (take count (drop start children.now)))) }
+{
+    for j in 0..count {
+        let child = &children[start + j];
+        let Some(mut made) = point(alloc, p, side, j, facts)? else {
+            return Ok(false);
+        };
+        if !tree_stands(alloc, pool, used, &mut made, child)? {
+            return Ok(false);
+        }
+    }
+    Ok(true)
+}
+
+/// How many of the children from `start` on belong to the lower bound that a fact is, where each of them stands at its test point; 0 where the fact is no lower bound of `p`.
+#[cycle(tree_stands)]
+fn bound_stands(
+    alloc: Global,
+    pool: &Pool,
+    used: &[u32],
+    facts: &[Fact],
+    p: u32,
+    d: &i128,
+    fact: &Fact,
+    children: &[Tree],
+    start: usize,
+) -> Result<Option<usize>, AllocError>
+    requires pool_is { IsTrue (is_pool pool.now) }
+    requires facts_are { IsTrue (list_all is_fact facts.now) }
+    requires fact { IsTrue (is_fact fact.now) }
+    requires start { start ≤ length children.now }
+    ensures count { IfOk result (λ n. n ≡ bound_stands p facts.now used.now (spec.lower_bound p d.now fact.now) (map (tree_stands pool.now.params pool.now.clauses) (drop start children.now))) }
+    ensures within { IfOk result (λ o. IfSome o (λ n. start + n ≤ length children.now)) }
+{
+    let Some(found) = lower_bound(alloc, p, d, fact)? else {
+        return Ok(None);
+    };
+    let Some(bound) = found else {
+        return Ok(Some(0));
+    };
+    let Some(count) = count_within(&bound.children, children.len() - start) else {
+        return Ok(None);
+    };
+    if points_stand(
+        alloc,
+        pool,
+        used,
+        facts,
+        p,
+        &bound.side,
+        children,
+        start,
+        count,
+    )? {
+        Ok(Some(count))
+    } else {
+        Ok(None)
+    }
+}
+
+/// Whether the children stand at the test points of the lower bounds, in the order of the facts.
+#[cycle(tree_stands)]
+fn bounds_stand(
+    alloc: Global,
+    pool: &Pool,
+    used: &[u32],
+    facts: &[Fact],
+    p: u32,
+    d: &i128,
+    children: &[Tree],
+) -> Result<bool, AllocError>
+    requires pool_is { IsTrue (is_pool pool.now) }
+    requires facts_are { IsTrue (list_all is_fact facts.now) }
+    ensures { IfOk result (λ yes. yes ≡ bounds_stand p d.now facts.now used.now facts.now (map (tree_stands pool.now.params pool.now.clauses) children.now)) }
+{
+    let mut start = 0;
+    for fact in facts {
+        match bound_stands(alloc, pool, used, facts, p, d, fact, children, start)? {
+            Some(count) => start += count,
+            None => return Ok(false),
+        }
+    }
+    Ok(start == children.len())
 }
