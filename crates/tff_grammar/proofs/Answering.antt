@@ -43,7 +43,7 @@ piece_one k text s p q e i = e ∙ sym i
 cons_is : (a b : Piece) (qs rs : List Piece) → a ≡ b → qs ≡ rs → a ∷ qs ≡ b ∷ rs
 cons_is a b qs rs h i = cc
 
-pieces_one : (bytes : List ℕ) (ts : List Token) (ps qs : List Piece) → ArePieces bytes ts ps → ArePieces bytes ts qs → ps ≡ qs
+pub pieces_one : (bytes : List ℕ) (ts : List Token) (ps qs : List Piece) → ArePieces bytes ts ps → ArePieces bytes ts qs → ps ≡ qs
 pieces_one bytes [] [] [] a b = refl
 pieces_one bytes [] [] (q ∷ qs) a b = absurd b
 pieces_one bytes [] (p ∷ ps) qs a b = absurd a
@@ -68,7 +68,7 @@ is_file ps ss e = let r = read_text ps (file_value ss ∷ []) e in record { file
 pub is_text : (bytes : List ℕ) (ts : List Token) (ps : List Piece) (ss : List Statement) → Scans bytes ts None → ArePieces bytes ts ps → read ps ≡ whole (file_value ss ∷ []) → IsText bytes ss
 is_text bytes ts ps ss scan c e = record { tokens = ts; pieces = ps; scanned = scan; classified = c; file = is_file ps ss e }
 
-abbrev OneScan : Type 0
+abbrev pub OneScan : Type 0
 OneScan = (bytes : List ℕ) (first second : List Token) (stop other : Option ℕ) → Scans bytes first stop → Scans bytes second other → (first ≡ second) × (stop ≡ other)
 
 -- what reading a text gives

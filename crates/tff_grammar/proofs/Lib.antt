@@ -13,3 +13,4 @@ pub mod Names
 pub mod Places
 pub mod Stops
 pub mod Spans
+pub mod Determined

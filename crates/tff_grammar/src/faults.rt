@@ -25,6 +25,7 @@ pub enum FaultName {
 /// The first fault of a text.
 #[derive(Clone, Copy, Debug, PartialEq, Eq)]
 pub struct Fault {
+    /// Its name.
     pub name: FaultName,
     /// The byte of the fault, counted from 0: the first one of its token, the one at which no token begins, or the length of the text.
     pub at: u64,

@@ -3,26 +3,37 @@
 /// A part of the text: the place of its first byte, and that of the byte behind its last, counted from 0.
 #[derive(Clone, Copy, Debug, PartialEq, Eq)]
 pub struct Span {
+    /// The place of its first byte.
     pub start: u64,
+    /// The place behind its last byte.
     pub end: u64,
 }
 
-/// A numeral: its value, and where it stands.
+/// A numeral: the number that it stands for, and where it stands.
 #[derive(Clone, Copy, Debug, PartialEq, Eq)]
 pub struct Number {
+    /// The number.
     pub value: i128,
+    /// The place of its token.
     pub span: Span,
 }
 
 /// A sign that the grammar names on its own.
 #[derive(Clone, Copy, Debug, PartialEq, Eq)]
 pub enum Sign {
+    /// `(`
     OpenRound,
+    /// `)`
     CloseRound,
+    /// `[`
     OpenSquare,
+    /// `]`
     CloseSquare,
+    /// `,`
     Comma,
+    /// `.`
     Dot,
+    /// `:`
     Colon,
     /// `~`
     Not,
@@ -32,7 +43,7 @@ pub enum Sign {
     Arrow,
 }
 
-/// A sign that joins two or more formulas.
+/// A sign that joins two or more formulas (TPTP's associative connectives).
 #[derive(Clone, Copy, Debug, PartialEq, Eq)]
 pub enum Junction {
     /// `&`
@@ -41,7 +52,7 @@ pub enum Junction {
     Or,
 }
 
-/// A sign that joins two formulas.
+/// A sign that joins two formulas (TPTP's nonassociative connectives).
 #[derive(Clone, Copy, Debug, PartialEq, Eq)]
 pub enum Link {
     /// `=>`
@@ -58,6 +69,7 @@ pub enum Link {
     Nor,
 }
 
+/// A quantifier.
 #[derive(Clone, Copy, Debug, PartialEq, Eq)]
 pub enum Quantifier {
     /// `!`
@@ -84,16 +96,24 @@ pub enum BasicSort {
     Int,
 }
 
-/// An arithmetic word, as `$sum`.
+/// An arithmetic word of the TPTP.
 #[derive(Clone, Copy, Debug, PartialEq, Eq)]
 pub enum Operation {
+    /// `$sum`
     Sum,
+    /// `$difference`
     Difference,
+    /// `$uminus`
     Uminus,
+    /// `$product`
     Product,
+    /// `$less`
     Less,
+    /// `$lesseq`
     LessEq,
+    /// `$greater`
     Greater,
+    /// `$greatereq`
     GreaterEq,
 }
 
@@ -119,24 +139,35 @@ pub enum Keyword {
 /// A token as the grammar sees it.
 #[derive(Clone, Copy, Debug, PartialEq, Eq)]
 pub enum Piece {
+    /// A sign that the grammar names on its own.
     Sign(Sign),
+    /// `&` or `|`
     Junction(Junction),
+    /// A sign between two formulas.
     Link(Link),
+    /// `!` or `?`
     Quantifier(Quantifier),
+    /// `=` or `!=`
     Relation(Relation),
+    /// A lower word, and where it stands.
     Lower(Keyword, Span),
+    /// A quoted word.
     Quoted(Span),
+    /// An upper word.
     Upper(Span),
+    /// A numeral from -2^127 to 2^127 - 1.
     Numeral(Number),
     /// A numeral below -2^127 or above 2^127 - 1.
     WideNumeral,
     /// `$tType`
     OfTypes,
+    /// `$i` or `$int`
     Basic(BasicSort),
     /// `$o`
     Truth,
     /// `$true` or `$false`
     Constant(bool),
+    /// An arithmetic word.
     Operation(Operation, Span),
     /// A token that is read nowhere but in annotations: a rational, a real, a distinct object, `!>`, or another dollar word.
     Unsupported,

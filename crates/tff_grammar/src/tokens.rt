@@ -72,7 +72,7 @@ pub(crate) fn pieces(
     requires forms { HaveForms bytes.now tokens.now }
     ensures { IfOk result (λ ps. ArePieces bytes.now tokens.now ps.items) }
 {
-    let mut pieces = Vec::new(alloc);
+    let mut pieces = Vec::with_capacity(alloc, tokens.len())?;
     let mut rest = tokens;
     while let Some((token, more)) = next_token(rest) {
         pieces.push(piece_at(bytes, token))?;
