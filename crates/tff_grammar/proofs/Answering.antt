@@ -1,5 +1,5 @@
 -- What reading gives is what the bytes give.
-use Rattle.std.proofs.Common.{◌≡◌, ℕ, zero, suc, ◌+◌, ◌-◌, ◌<◌, ◌≤◌, ℤ, List, [], ◌∷◌, ◌++◌, length, Option, Some, None, Ok, Err, refl, sym, ap, subst, ◌∙◌, arith, length-append}
+use Rattle.std.proofs.Common.{◌≡◌, ℕ, zero, suc, ◌+◌, ◌-◌, ◌<◌, ◌≤◌, ℤ, List, [], ◌∷◌, length, Option, Some, None, refl, sym, ap, subst, ◌∙◌, arith, length-append}
 use Rattle.std.specs.Prelude.{Result, IfOk, IfErr, MatchResult, is_some, slice_get, FitsSigned}
 use Rattle.std.specs.Int.{w128}
 use Rattle.tff_lexer.specs.declared.spans.Token.{Token}
@@ -10,16 +10,13 @@ use Rattle.tff_grammar.specs.declared.faults.FaultName.{FaultName}
 use Rattle.tff_grammar.specs.declared.faults.FaultName.TheVariants as n
 use Rattle.tff_grammar.specs.declared.faults.Fault.{Fault}
 use Rattle.tff_grammar.specs.declared.faults.Found.{Found}
-use Rattle.tff_grammar.specs.declared.faults.Stop.{Stop}
-use Rattle.tff_grammar.specs.declared.faults.Stop.TheVariants as stops
 use Rattle.tff_grammar.specs.declared.pieces.Span.{Span}
 use Rattle.tff_grammar.specs.declared.pieces.Piece.{Piece}
 use Rattle.tff_grammar.specs.declared.pieces.Piece.TheVariants as piece
 use Rattle.tff_grammar.specs.declared.trees.Statement.{Statement}
-use Rattle.tff_grammar.specs.Grammar.{FileTree}
 use Rattle.tff_grammar.specs.Meaning.{file_of}
-use Rattle.tff_grammar.specs.FirstFault.{IsFile, Spells, IsFirst}
-use Rattle.tff_grammar.specs.Machine.{Values, file_value, Outcome, whole, fault, read}
+use Rattle.tff_grammar.specs.FirstFault.{IsFile, IsFirst}
+use Rattle.tff_grammar.specs.Machine.{Values, file_value, whole, fault, read}
 use Rattle.tff_grammar.specs.Pieces.{bytes_of, place, IsNumeral, IsPiece, ArePieces}
 use Rattle.tff_grammar.specs.Answer.{IsText, IsFirstFault, name_there, IsThere}
 use Rattle.tff_grammar.proofs.Texts.{text_read, read_text}

@@ -1,5 +1,5 @@
 -- Each stack can be completed without a further level.
-use Rattle.std.proofs.Common.{◌≡◌, ℕ, ◌+◌, ◌≤◌, Bool, true, false, List, [], ◌∷◌, Option, Some, None, refl, arith}
+use Rattle.std.proofs.Common.{ℕ, ◌≤◌, true, [], ◌∷◌, None, refl, arith}
 use Rattle.std.specs.List.{AllByRecursion}
 use Rattle.tff_grammar.specs.declared.pieces.Span.{Span}
 use Rattle.tff_grammar.specs.declared.pieces.BasicSort.TheVariants.{Int}

@@ -1,16 +1,13 @@
 -- Each stack can be completed to a text, and what completes the stack behind a token completes, with the token, the one before it.
-use Rattle.std.proofs.Common.{◌≡◌, ℕ, ◌+◌, ◌≤◌, Bool, true, false, IsTrue, List, [], ◌∷◌, Option, Some, None, refl, sym, ap, ◌∙◌, arith}
-use Rattle.std.specs.List.{AllByRecursion}
-use Rattle.tff_grammar.specs.declared.pieces.Span.{Span}
+use Rattle.std.proofs.Common.{◌≡◌, ℕ, ◌+◌, Bool, false, IsTrue, List, [], ◌∷◌, Option, Some, None, refl, ap, ◌∙◌}
 use Rattle.tff_grammar.specs.declared.pieces.Sign.{Sign}
 use Rattle.tff_grammar.specs.declared.pieces.Sign.TheVariants.{OpenRound, CloseRound, OpenSquare, CloseSquare, Comma, Dot, Colon, Not, Star, Arrow}
 use Rattle.tff_grammar.specs.declared.pieces.Junction.{Junction}
 use Rattle.tff_grammar.specs.declared.pieces.Junction.TheVariants.{And, Or}
-use Rattle.tff_grammar.specs.declared.pieces.BasicSort.TheVariants.{Int}
 use Rattle.tff_grammar.specs.declared.pieces.Keyword.TheVariants.{Tff, Declaration, Conjecture, Premise}
 use Rattle.tff_grammar.specs.declared.pieces.Piece.{Piece}
 use Rattle.tff_grammar.specs.declared.pieces.Piece.TheVariants as piece
-use Rattle.tff_grammar.specs.Grammar.{WordTree, lower, quoted, NameTree, named, numbered, ArgumentTree, declared, basic, SortTree, of_argument, truth, ArgsTree, one, several, TypeTree, of_types, constant, function, bracketed, TypingTree, typing, enclosed, HeadTree, head_word, head_operation, TermTree, variable, numeral, apply, ArgumentsTree, no_arguments, arguments, TermsTree, no_terms, next_term, SecondTree, no_second, second, VariableTree, UnitTree, negated, quantified, grouped, truth_value, atomic, FormulaTree, formula, TailTree, alone, linked, joined, UnitsTree, no_units, next_unit, is_note, NotesTree, no_notes, token, round, square, EndingTree, bare, annotated, BodyTree, declaration, premise, conjecture, StatementTree, FileTree, no_statements, next_statement, one_from, has_one}
+use Rattle.tff_grammar.specs.Grammar.{lower, quoted, NameTree, named, numbered, ArgumentTree, declared, basic, SortTree, of_argument, truth, one, several, TypeTree, of_types, constant, function, bracketed, TypingTree, typing, enclosed, head_word, head_operation, TermTree, variable, numeral, apply, ArgumentsTree, no_arguments, arguments, TermsTree, no_terms, next_term, SecondTree, no_second, second, VariableTree, UnitTree, negated, quantified, grouped, truth_value, atomic, formula, TailTree, alone, linked, joined, UnitsTree, no_units, next_unit, NotesTree, no_notes, token, round, square, EndingTree, bare, annotated, BodyTree, declaration, premise, conjecture, FileTree, next_statement, one_from, has_one}
 use Rattle.tff_grammar.specs.Text.{Leveled, Leveleds, word_text, argument_text, sort_text, more_arguments, type_text, typing_text, term_text, arguments_text, terms_text, second_text, variable_sort_text, variable_text, more_variables, binder_text, unit_text, tail_text, units_text, notes_text, ending_text, body_text, file_text}
 use Rattle.tff_grammar.specs.Machine.{Symbol, Stack, raise, levels, Step, moved, stuck, step}
 use Rattle.tff_grammar.specs.Machine as m

@@ -1,9 +1,8 @@
 -- A text has one answer.
-use Rattle.std.proofs.Common.{◌≡◌, ℕ, zero, suc, ◌<◌, ◌≤◌, Bool, true, false, List, [], ◌∷◌, ◌++◌, length, Option, Some, None, refl, sym, ap, subst, ◌∙◌, append_assoc, arith, ◌⊎◌, inl, inr}
+use Rattle.std.proofs.Common.{◌≡◌, ℕ, zero, suc, ◌<◌, ◌≤◌, Bool, false, List, [], ◌∷◌, ◌++◌, length, Option, None, refl, sym, ap, subst, ◌∙◌, append_assoc, arith, ◌⊎◌, inl, inr}
 use Rattle.std.specs.Prelude.{is_some, slice_get}
 use Rattle.std.proofs.lemmas.List.{append-nil}
 use Rattle.tff_lexer.specs.declared.spans.Token.{Token}
-use Rattle.tff_lexer.specs.Scans.{Scans}
 use Rattle.tff_grammar.specs.declared.faults.FaultName.{FaultName}
 use Rattle.tff_grammar.specs.declared.faults.FaultName.TheVariants as n
 use Rattle.tff_grammar.specs.declared.faults.Fault.{Fault}

@@ -14,3 +14,4 @@ pub mod Places
 pub mod Stops
 pub mod Spans
 pub mod Determined
+pub mod Rows

@@ -1,5 +1,5 @@
 -- The name of a token that the machine refuses is the first of those that fit.
-use Rattle.std.proofs.Common.{◌≡◌, ℕ, ◌+◌, ◌<◌, ◌≤◌, Bool, true, false, cond, List, [], ◌∷◌, ◌++◌, refl, sym, ap, subst, ◌∙◌, arith, ◌⊎◌, inl, inr}
+use Rattle.std.proofs.Common.{◌≡◌, ℕ, ◌<◌, ◌≤◌, Bool, true, false, cond, List, [], ◌∷◌, refl, sym, subst, ◌∙◌, arith, ◌⊎◌, inl, inr}
 use Rattle.std.specs.Prelude.{nat_lt}
 use Rattle.std.proofs.lemmas.Bool.{ltb-true, ltb-false}
 use Rattle.tff_grammar.specs.declared.faults.FaultName.{FaultName}
@@ -18,7 +18,7 @@ use Rattle.tff_grammar.specs.Machine.{Symbol, Stack, levels, Answer, takes, open
 use Rattle.tff_grammar.specs.Machine as m
 use Rattle.tff_grammar.proofs.Table.{Good, answer_good, floor, floor_left, optional_low}
 use Rattle.tff_grammar.proofs.Canonical.{nowhere}
-use Rattle.tff_grammar.proofs.Texts.{Passes, is_done}
+use Rattle.tff_grammar.proofs.Texts.{is_done}
 use Rattle.tff_grammar.proofs.Walks.{May, passes_front}
 
 -- ---- what may stand here

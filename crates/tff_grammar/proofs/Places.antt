@@ -1,25 +1,23 @@
 -- What may stand at a place, by the texts that go on there and by the stack.
-use Rattle.std.proofs.Common.{◌≡◌, ℕ, ◌+◌, ◌<◌, ◌≤◌, Bool, true, false, IsTrue, List, [], ◌∷◌, ◌++◌, length, map, refl, sym, ap, subst, ◌∙◌, append_assoc, arith, ◌⊎◌, inl, inr}
+use Rattle.std.proofs.Common.{◌≡◌, ℕ, ◌≤◌, true, false, IsTrue, List, [], ◌∷◌, ◌++◌, refl, sym, ap, subst, ◌∙◌, append_assoc, arith, ◌⊎◌, inl, inr}
 use Rattle.std.proofs.lemmas.List.{append-nil}
 use Rattle.tff_grammar.specs.declared.faults.FaultName.{FaultName}
-use Rattle.tff_grammar.specs.declared.pieces.BasicSort.TheVariants.{Int}
-use Rattle.tff_grammar.specs.declared.pieces.Sign.TheVariants.{Star}
 use Rattle.tff_grammar.specs.declared.pieces.Keyword.TheVariants.{Premise}
 use Rattle.tff_grammar.specs.declared.pieces.Piece.{Piece}
 use Rattle.tff_grammar.specs.declared.pieces.Piece.TheVariants as piece
 use Rattle.tff_grammar.specs.Grammar.{FileTree, has_one}
 use Rattle.tff_grammar.specs.Text.{Leveled, Leveleds, file_text}
 use Rattle.tff_grammar.specs.Meaning.{file_of}
-use Rattle.tff_grammar.specs.FirstFault.{max_levels, pieces_of, IsShallow, IsFaultless, Spells, Begins, GoesOn, GoesOnDeeper, AtStart, AtRole, AtSort, AtMostLevels, Fits}
+use Rattle.tff_grammar.specs.FirstFault.{max_levels, pieces_of, IsShallow, IsFaultless, GoesOnDeeper, AtStart, AtRole, AtSort, AtMostLevels, Fits}
 use Rattle.tff_grammar.specs.Machine.{Stack, levels, Check, free, deepens, unbracketed, bracketed, Step, moved, stuck, step, Values, file_value, end_of, whole}
 use Rattle.tff_grammar.specs.Machine as m
-use Rattle.tff_grammar.proofs.Runs.{Runs, RunsOn, text_runs}
+use Rattle.tff_grammar.proofs.Runs.{RunsOn, text_runs}
 use Rattle.tff_grammar.proofs.Table.{Kept, step_keeps, floor}
 use Rattle.tff_grammar.proofs.Completes.{Rests, text, IfMoved, Before, step_completes}
 use Rattle.tff_grammar.proofs.Canonical.{complete, within}
 use Rattle.tff_grammar.proofs.Texts.{Passes, is_done, whole_done, passes_complete, done_completes, shallow-append}
-use Rattle.tff_grammar.proofs.Viable.{start, passes_low, runs_along, Last, last_of}
-use Rattle.tff_grammar.proofs.Walks.{May, goes_beyond, may_go_on}
+use Rattle.tff_grammar.proofs.Viable.{start, passes_low, runs_along, last_of}
+use Rattle.tff_grammar.proofs.Walks.{goes_beyond, may_go_on}
 use Rattle.tff_grammar.proofs.Names.{RoleAt, SortAt, StackFits, fits_map}
 
 -- ---- the end of a statement

@@ -1,8 +1,8 @@
 -- What the functions that read give, from what their calls give.
-use Rattle.std.proofs.Common.{◌≡◌, ℕ, ◌+◌, ◌≤◌, false, true, List, [], ◌∷◌, ◌++◌, refl, sym, ap, ◌∙◌, arith, length}
+use Rattle.std.proofs.Common.{◌≡◌, ℕ, ◌+◌, ◌≤◌, false, true, List, [], ◌∷◌, ◌++◌, refl, ap, ◌∙◌, arith}
 use Rattle.std.specs.Prelude.{nat_lt}
 use Rattle.std.proofs.lemmas.Bool.{le-ltb}
-use Rattle.tff_grammar.specs.declared.pieces.Sign.TheVariants.{OpenRound, CloseRound, OpenSquare, Colon, Not, Arrow}
+use Rattle.tff_grammar.specs.declared.pieces.Sign.TheVariants.{OpenRound, OpenSquare, Colon, Not}
 use Rattle.tff_grammar.specs.declared.pieces.Junction.{Junction}
 use Rattle.tff_grammar.specs.declared.pieces.Junction.TheVariants.{And, Or}
 use Rattle.tff_grammar.specs.declared.pieces.Link.{Link}

@@ -1,8 +1,8 @@
 -- What is written runs through the machine, each token at its level, and gives its trees.
-use Rattle.std.proofs.Common.{◌≡◌, ℕ, ◌+◌, Bool, true, false, not, ◌&&◌, IsTrue, List, [], ◌∷◌, ◌++◌, Option, Some, None, option_map, map, refl, sym, ap, subst, ◌∙◌, append_assoc}
+use Rattle.std.proofs.Common.{◌≡◌, ℕ, ◌+◌, Bool, true, false, IsTrue, List, [], ◌∷◌, ◌++◌, Option, Some, None, option_map, refl, sym, ap, subst, ◌∙◌, append_assoc}
 use Rattle.std.proofs.lemmas.List.{append-nil}
 use Rattle.tff_grammar.specs.declared.pieces.Span.{Span}
-use Rattle.tff_grammar.specs.declared.pieces.Sign.TheVariants.{OpenRound, CloseRound, OpenSquare, CloseSquare, Comma, Dot, Colon, Not, Star, Arrow}
+use Rattle.tff_grammar.specs.declared.pieces.Sign.TheVariants.{OpenRound, CloseRound, OpenSquare, CloseSquare, Comma, Dot, Colon, Arrow}
 use Rattle.tff_grammar.specs.declared.pieces.Junction.{Junction}
 use Rattle.tff_grammar.specs.declared.pieces.Junction.TheVariants.{And, Or}
 use Rattle.tff_grammar.specs.declared.pieces.Piece.{Piece}
@@ -16,9 +16,9 @@ use Rattle.tff_grammar.specs.declared.trees.Variable.{Variable}
 use Rattle.tff_grammar.specs.declared.trees.Formula.{Formula}
 use Rattle.tff_grammar.specs.declared.trees.Formula.TheVariants as formulas
 use Rattle.tff_grammar.specs.declared.trees.Statement.{Statement}
-use Rattle.tff_grammar.specs.Grammar.{WordTree, lower, quoted, NameTree, named, numbered, ArgumentTree, declared, basic, SortTree, of_argument, truth, ArgsTree, one, several, TypeTree, of_types, constant, function, bracketed, TypingTree, typing, enclosed, HeadTree, head_word, head_operation, TermTree, variable, numeral, apply, ArgumentsTree, no_arguments, arguments, TermsTree, no_terms, next_term, SecondTree, no_second, second, VariableTree, UnitTree, negated, quantified, grouped, truth_value, atomic, FormulaTree, formula, TailTree, alone, linked, joined, UnitsTree, no_units, next_unit, is_note, NotesTree, no_notes, token, round, square, EndingTree, bare, annotated, BodyTree, declaration, premise, conjecture, StatementTree, FileTree, no_statements, next_statement, one_from, has_one}
-use Rattle.tff_grammar.specs.Text.{Leveled, Leveleds, word_text, name_text, argument_text, sort_text, more_arguments, args_text, type_text, typing_text, head_text, term_text, arguments_text, terms_text, second_text, variable_sort_text, variable_text, more_variables, binder_text, unit_text, formula_text, tail_text, units_text, notes_text, close_text, ending_text, body_text, statement_text, file_text}
-use Rattle.tff_grammar.specs.Meaning.{word_of, name_place, argument_of, sort_of, arguments_of, args_of, type_of, typing_of, head_of, term_of, all_of, terms_of, atom_of, variable_of, variables_of, unit_of, formula_of, with_tail, units_of, body_of, statement_of, file_of}
+use Rattle.tff_grammar.specs.Grammar.{lower, quoted, NameTree, named, numbered, ArgumentTree, declared, basic, SortTree, of_argument, truth, one, several, TypeTree, of_types, constant, function, bracketed, TypingTree, typing, enclosed, HeadTree, head_word, head_operation, TermTree, variable, numeral, apply, ArgumentsTree, no_arguments, arguments, TermsTree, no_terms, next_term, SecondTree, no_second, second, VariableTree, UnitTree, negated, quantified, grouped, truth_value, atomic, FormulaTree, formula, TailTree, alone, linked, joined, UnitsTree, no_units, next_unit, is_note, NotesTree, no_notes, token, round, square, EndingTree, bare, annotated, BodyTree, declaration, premise, conjecture, FileTree, no_statements, next_statement, one_from, has_one}
+use Rattle.tff_grammar.specs.Text.{Leveleds, name_text, argument_text, sort_text, more_arguments, type_text, typing_text, head_text, term_text, arguments_text, terms_text, second_text, variable_sort_text, more_variables, unit_text, formula_text, tail_text, units_text, notes_text, ending_text, body_text, file_text}
+use Rattle.tff_grammar.specs.Meaning.{word_of, name_place, argument_of, sort_of, arguments_of, type_of, typing_of, head_of, term_of, all_of, terms_of, atom_of, variable_of, variables_of, unit_of, formula_of, with_tail, units_of, body_of, statement_of, file_of}
 use Rattle.tff_grammar.specs.Machine.{Stack, levels, Step, moved, stuck, step, act, Values, sorts_value, type_value, head_value, term_value, binders_value, binder_value, formula_value, members_value, word_value, name_value, role_value, file_value, Outcome, whole, end_of}
 use Rattle.tff_grammar.specs.Machine as m
 

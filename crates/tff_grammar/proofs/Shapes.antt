@@ -1,5 +1,5 @@
 -- Which tokens open a level, and that `$int` is taken where `$o` is.
-use Rattle.std.proofs.Common.{◌≡◌, ℕ, Bool, true, false, List, [], ◌∷◌, refl, subst}
+use Rattle.std.proofs.Common.{◌≡◌, Bool, false, [], ◌∷◌, refl}
 use Rattle.tff_grammar.specs.declared.pieces.Sign.{Sign}
 use Rattle.tff_grammar.specs.declared.pieces.Sign.TheVariants.{OpenRound, CloseRound, OpenSquare, CloseSquare, Comma, Dot, Colon, Not, Star, Arrow}
 use Rattle.tff_grammar.specs.declared.pieces.Junction.{Junction}

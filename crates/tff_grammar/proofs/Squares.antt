@@ -1,7 +1,5 @@
 -- Annotations with square brackets open.
-use Rattle.std.proofs.Common.{◌≡◌, ℕ, zero, suc, ◌+◌, ◌-◌, ◌<◌, ◌≤◌, Bool, true, false, not, IsTrue, List, [], ◌∷◌, ◌++◌, refl, sym, ap, ◌∙◌, arith, add-one, length, subst}
-use Rattle.std.specs.Prelude.{nat_lt}
-use Rattle.std.proofs.lemmas.Bool.{le-ltb}
+use Rattle.std.proofs.Common.{◌≡◌, ℕ, zero, suc, ◌+◌, ◌-◌, List, [], ◌∷◌, refl, sym, ap, ◌∙◌, arith, add-one}
 use Rattle.tff_grammar.specs.declared.pieces.Sign.TheVariants.{OpenRound, CloseRound, OpenSquare, CloseSquare}
 use Rattle.tff_grammar.specs.declared.pieces.Piece.{Piece}
 use Rattle.tff_grammar.specs.declared.pieces.Piece.TheVariants as piece
@@ -10,7 +8,6 @@ use Rattle.tff_grammar.specs.declared.faults.Stop.TheVariants as stops
 use Rattle.tff_grammar.specs.declared.faults.FaultName.TheVariants as names
 use Rattle.tff_grammar.specs.declared.annotations.Note.TheVariants as note
 use Rattle.tff_grammar.specs.Notes.{note_of}
-use Rattle.tff_grammar.specs.FirstFault.{max_levels}
 use Rattle.tff_grammar.specs.Machine.{Stack, levels, Values, go, Reads, Stops, StopsAt, refusal, plain_name}
 use Rattle.tff_grammar.specs.Machine as m
 

@@ -1,15 +1,13 @@
 -- The fault that the machine finds is the first one.
-use Rattle.std.proofs.Common.{◌≡◌, ℕ, zero, suc, ◌+◌, ◌<◌, ◌≤◌, Bool, true, false, cond, List, [], ◌∷◌, ◌++◌, length, Option, Some, None, refl, sym, ap, subst, ◌∙◌, append_assoc, arith, length-append, ◌⊎◌, inl, inr}
+use Rattle.std.proofs.Common.{◌≡◌, ℕ, ◌+◌, ◌<◌, ◌≤◌, Bool, true, false, cond, List, [], ◌∷◌, ◌++◌, length, Some, None, refl, sym, ap, subst, ◌∙◌, append_assoc, arith, length-append, ◌⊎◌, inl, inr}
 use Rattle.std.specs.Prelude.{nat_lt}
 use Rattle.std.proofs.lemmas.List.{append-nil}
 use Rattle.std.proofs.lemmas.Bool.{ltb-true}
 use Rattle.tff_grammar.specs.declared.faults.FaultName.{FaultName}
 use Rattle.tff_grammar.specs.declared.faults.FaultName.TheVariants as n
 use Rattle.tff_grammar.specs.declared.faults.Found.{Found}
-use Rattle.tff_grammar.specs.declared.pieces.Span.{Span}
 use Rattle.tff_grammar.specs.declared.pieces.Sign.TheVariants.{OpenRound, CloseRound, Star, Not, Arrow}
 use Rattle.tff_grammar.specs.declared.pieces.BasicSort.TheVariants.{Int}
-use Rattle.tff_grammar.specs.declared.pieces.Keyword.TheVariants.{Language, Conjecture}
 use Rattle.tff_grammar.specs.declared.pieces.Piece.{Piece}
 use Rattle.tff_grammar.specs.declared.pieces.Piece.TheVariants as piece
 use Rattle.tff_grammar.specs.FirstFault.{max_levels, GoesOn, GoesOnDeeper, AtStart, AtRole, AtSort, AtMostLevels, IsOpener, IsUnsupported, FitsWhere, Fits, rank, FaultAt, IsFirst}
@@ -18,11 +16,11 @@ use Rattle.tff_grammar.specs.Text.{file_text}
 use Rattle.tff_grammar.specs.Machine.{Stack, levels, Check, free, deepens, unbracketed, bracketed, Step, moved, stuck, step, Values, file_value, checked, argument_follows, fault, whole, read}
 use Rattle.tff_grammar.specs.Machine as m
 use Rattle.tff_grammar.proofs.Table.{Kept, step_keeps}
-use Rattle.tff_grammar.proofs.Texts.{Passes, PassesOn, is_done, IsRead, read_text}
+use Rattle.tff_grammar.proofs.Texts.{Passes, PassesOn, is_done, read_text}
 use Rattle.tff_grammar.proofs.Viable.{start, passes_low, goes_on, stuck_there, deep_there}
-use Rattle.tff_grammar.proofs.Walks.{May, passes_front, goes_beyond, may_go_on, goes_front, WalksOn, Walks, walks_pass, HaltsOn, Halt, Halts, halts}
-use Rattle.tff_grammar.proofs.Names.{IntAt, StackFits, Named, StuckNamed, stuck_named}
-use Rattle.tff_grammar.proofs.Places.{start_done, done_start, moved_deeper, fits_stack, stack_fits}
+use Rattle.tff_grammar.proofs.Walks.{May, passes_front, goes_beyond, may_go_on, goes_front, WalksOn, Walks, walks_pass, HaltsOn, Halt, halts}
+use Rattle.tff_grammar.proofs.Names.{IntAt, StuckNamed, stuck_named}
+use Rattle.tff_grammar.proofs.Places.{start_done, moved_deeper, fits_stack, stack_fits}
 use Rattle.tff_grammar.proofs.Shapes.{StepShape, step_shape, TruthInt, truth_int}
 
 -- ---- what a check finds

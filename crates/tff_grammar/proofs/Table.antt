@@ -1,5 +1,5 @@
 -- What the table keeps: levels are counted, a `$o` that may be an argument lets no `>` follow, and only what need not come is left.
-use Rattle.std.proofs.Common.{◌≡◌, ℕ, ◌+◌, ◌≤◌, Bool, true, false, List, [], ◌∷◌, ◌++◌, refl, arith}
+use Rattle.std.proofs.Common.{◌≡◌, ℕ, ◌+◌, ◌≤◌, Bool, true, false, [], ◌∷◌, ◌++◌, refl, arith}
 use Rattle.tff_grammar.specs.declared.pieces.Sign.{Sign}
 use Rattle.tff_grammar.specs.declared.pieces.Sign.TheVariants.{OpenRound, CloseRound, OpenSquare, CloseSquare, Comma, Dot, Colon, Not, Star, Arrow}
 use Rattle.tff_grammar.specs.declared.pieces.Junction.{Junction}

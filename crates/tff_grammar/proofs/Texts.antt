@@ -1,18 +1,16 @@
 -- Where the machine reads all tokens they are a text and give its trees, and each text is read so.
-use Rattle.std.proofs.Common.{◌≡◌, ℕ, ◌+◌, ◌<◌, ◌≤◌, Bool, true, false, not, ◌&&◌, cond, IsTrue, List, [], ◌∷◌, ◌++◌, map, Option, Some, None, refl, sym, ap, subst, ◌∙◌, append_assoc, arith}
+use Rattle.std.proofs.Common.{◌≡◌, ℕ, ◌≤◌, Bool, true, false, ◌&&◌, cond, IsTrue, List, [], ◌∷◌, ◌++◌, Option, Some, None, refl, sym, ap, subst, ◌∙◌, arith}
 use Rattle.std.specs.Prelude.{nat_lt}
-use Rattle.std.specs.List.{AllByRecursion}
 use Rattle.std.proofs.lemmas.List.{append-nil}
-use Rattle.std.proofs.lemmas.Bool.{ltb-true, ltb-false, le-ltb}
+use Rattle.std.proofs.lemmas.Bool.{ltb-false, le-ltb}
 use Rattle.tff_grammar.specs.declared.faults.FaultName.TheVariants as n
 use Rattle.tff_grammar.specs.declared.pieces.Sign.TheVariants.{CloseRound, Star, Arrow}
 use Rattle.tff_grammar.specs.declared.pieces.Piece.{Piece}
 use Rattle.tff_grammar.specs.declared.pieces.Piece.TheVariants as piece
-use Rattle.tff_grammar.specs.declared.trees.Statement.{Statement}
 use Rattle.tff_grammar.specs.Grammar.{no_arguments, no_second, alone, no_units, no_notes, FileTree, no_statements, has_one}
-use Rattle.tff_grammar.specs.Text.{Leveled, Leveleds, file_text}
+use Rattle.tff_grammar.specs.Text.{Leveleds, file_text}
 use Rattle.tff_grammar.specs.Meaning.{file_of}
-use Rattle.tff_grammar.specs.FirstFault.{max_levels, pieces_of, IsShallow, IsFaultless, Spells}
+use Rattle.tff_grammar.specs.FirstFault.{max_levels, pieces_of, IsShallow, Spells}
 use Rattle.tff_grammar.specs.Machine.{Symbol, Stack, levels, Check, free, deepens, unbracketed, bracketed, Step, moved, stuck, step, act, left, is_optional, Value, Values, file_value, Outcome, whole, fault, end_of, checked, argument_follows, or_fault, go_on, go, read}
 use Rattle.tff_grammar.specs.Machine as m
 use Rattle.tff_grammar.proofs.Runs.{Runs, RunsOn, text_runs}

@@ -1,12 +1,11 @@
 -- Where the machine is, a text goes on, and where it is stuck none does.
-use Rattle.std.proofs.Common.{◌≡◌, ℕ, ◌+◌, ◌<◌, ◌≤◌, Bool, true, false, IsTrue, List, [], ◌∷◌, ◌++◌, map, refl, sym, ap, subst, ◌∙◌, append_assoc, arith}
-use Rattle.std.specs.List.{AllByRecursion}
+use Rattle.std.proofs.Common.{◌≡◌, ℕ, ◌<◌, ◌≤◌, false, List, [], ◌∷◌, ◌++◌, refl, ap, subst, ◌∙◌, append_assoc, arith}
 use Rattle.tff_grammar.specs.declared.faults.FaultName.{FaultName}
 use Rattle.tff_grammar.specs.declared.pieces.Piece.{Piece}
-use Rattle.tff_grammar.specs.Grammar.{FileTree, has_one}
+use Rattle.tff_grammar.specs.Grammar.{FileTree}
 use Rattle.tff_grammar.specs.Text.{Leveled, Leveleds, file_text}
 use Rattle.tff_grammar.specs.Meaning.{file_of}
-use Rattle.tff_grammar.specs.FirstFault.{max_levels, pieces_of, IsShallow, IsFaultless, Begins, GoesOn}
+use Rattle.tff_grammar.specs.FirstFault.{max_levels, pieces_of, IsShallow, GoesOn}
 use Rattle.tff_grammar.specs.Machine.{Stack, levels, Check, free, deepens, unbracketed, bracketed, Step, moved, stuck, step, act, Values, file_value}
 use Rattle.tff_grammar.specs.Machine as m
 use Rattle.tff_grammar.proofs.Runs.{Runs, RunsOn, text_runs}

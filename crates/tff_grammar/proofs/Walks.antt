@@ -1,13 +1,12 @@
 -- Where the machine goes along the tokens, and where it halts.
-use Rattle.std.proofs.Common.{◌≡◌, ℕ, ◌+◌, ◌<◌, ◌≤◌, Bool, true, false, List, [], ◌∷◌, ◌++◌, length, Option, Some, None, refl, sym, ap, subst, ◌∙◌, append_assoc, arith, ◌⊎◌, inl, inr}
+use Rattle.std.proofs.Common.{◌≡◌, ℕ, ◌≤◌, false, List, [], ◌∷◌, ◌++◌, length, Option, Some, None, refl, sym, ap, subst, ◌∙◌, ◌⊎◌, inl, inr}
 use Rattle.tff_grammar.specs.declared.faults.FaultName.{FaultName}
 use Rattle.tff_grammar.specs.declared.faults.FaultName.TheVariants as n
 use Rattle.tff_grammar.specs.declared.faults.Found.{Found}
 use Rattle.tff_grammar.specs.declared.pieces.Piece.{Piece}
-use Rattle.tff_grammar.specs.Grammar.{FileTree, has_one}
-use Rattle.tff_grammar.specs.Text.{Leveled, Leveleds, file_text}
+use Rattle.tff_grammar.specs.Text.{Leveleds}
 use Rattle.tff_grammar.specs.Meaning.{file_of}
-use Rattle.tff_grammar.specs.FirstFault.{max_levels, pieces_of, IsShallow, IsFaultless, Begins, GoesOn}
+use Rattle.tff_grammar.specs.FirstFault.{max_levels, pieces_of, IsShallow, GoesOn}
 use Rattle.tff_grammar.specs.Machine.{Stack, levels, Check, Step, moved, stuck, step, act, left, Values, file_value, Outcome, whole, fault, fault_at, end_of, checked, or_fault, go_on, go}
 use Rattle.tff_grammar.specs.Machine as m
 use Rattle.tff_grammar.proofs.Runs.{Runs, RunsOn, text_runs}

@@ -13,8 +13,7 @@ use Rattle.tff_grammar.specs.declared.pieces.Junction.TheVariants.{And, Or}
 use Rattle.tff_grammar.specs.declared.pieces.Link.{Link}
 use Rattle.tff_grammar.specs.declared.pieces.Quantifier.{Quantifier}
 use Rattle.tff_grammar.specs.declared.pieces.Relation.{Relation}
-use Rattle.tff_grammar.specs.declared.pieces.Keyword.{Keyword}
-use Rattle.tff_grammar.specs.declared.pieces.Keyword.TheVariants.{Tff, Include, Language, Declaration, Conjecture, Premise, Other}
+use Rattle.tff_grammar.specs.declared.pieces.Keyword.TheVariants.{Tff, Include, Language, Declaration, Conjecture, Premise}
 use Rattle.tff_grammar.specs.declared.pieces.Piece.{Piece}
 use Rattle.tff_grammar.specs.declared.pieces.Piece.TheVariants as piece
 use Rattle.tff_grammar.specs.declared.trees.Word.{Word}

@@ -1,7 +1,6 @@
 -- The syntax trees that what is written stands for: without brackets and annotations.
-use Rattle.std.specs.Prelude.{Bool, List, [], ◌∷◌, map, Option, option_map}
+use Rattle.std.specs.Prelude.{List, [], ◌∷◌, map, option_map}
 use Rattle.tff_grammar.specs.declared.pieces.Span.{Span}
-use Rattle.tff_grammar.specs.declared.pieces.Junction.{Junction}
 use Rattle.tff_grammar.specs.declared.trees.Word.{Word}
 use Rattle.tff_grammar.specs.declared.trees.Word.TheVariants as word
 use Rattle.tff_grammar.specs.declared.trees.Sort.{Sort}

@@ -1,10 +1,9 @@
 -- The tokens of a text as the grammar sees them, by their kinds and their bytes.
-use Rattle.std.specs.Prelude.{◌≡◌, ℕ, ℤ, List, [], ◌∷◌, take, drop, FitsSigned}
+use Rattle.std.specs.Prelude.{◌≡◌, ℕ, ◌-◌, ℤ, List, [], ◌∷◌, take, drop, FitsSigned}
 use Rattle.std.specs.Int.{w128}
 use Rattle.tff_lexer.specs.declared.spans.TokenKind.{TokenKind}
 use Rattle.tff_lexer.specs.declared.spans.TokenKind.TheVariants as kind
 use Rattle.tff_lexer.specs.declared.spans.Token.{Token}
-use Rattle.tff_lexer.specs.Scans.{size}
 use Rattle.tff_lexer.specs.Values.{value}
 use Rattle.tff_grammar.specs.declared.pieces.Span.{Span}
 use Rattle.tff_grammar.specs.declared.pieces.Piece.{Piece}
@@ -15,9 +14,13 @@ use Rattle.tff_grammar.specs.Words.{keyword_of, dollar_piece, sign_piece}
 abbrev pub place : Token → Span
 place t = record { start = t.start; «end» = t.end }
 
--- its bytes
+-- the bytes that stand there
+abbrev pub bytes_at : List ℕ → Span → List ℕ
+bytes_at text s = take (s.«end» - s.start) (drop s.start text)
+
+-- those of a token
 abbrev pub bytes_of : List ℕ → Token → List ℕ
-bytes_of bytes t = take (size t) (drop t.start bytes)
+bytes_of bytes t = bytes_at bytes (place t)
 
 -- a numeral: its number where that is one from -2^127 to 2^127 - 1
 abbrev pub IsNumeral : ℤ → Span → Piece → Type 0

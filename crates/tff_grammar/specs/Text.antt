@@ -1,6 +1,6 @@
 -- The tokens of what is written, in front of the tokens that follow. Each has the number of levels that it stands in: `~`, a
 -- quantifier and `(` behind `tff(` open one, and stand in it.
-use Rattle.std.specs.Prelude.{ℕ, ◌+◌, Bool, List, [], ◌∷◌, Option, Some, None}
+use Rattle.std.specs.Prelude.{ℕ, ◌+◌, List, [], ◌∷◌, Option, Some, None}
 use Rattle.tff_grammar.specs.declared.pieces.Sign.TheVariants.{OpenRound, CloseRound, OpenSquare, CloseSquare, Comma, Dot, Colon, Not, Star, Arrow}
 use Rattle.tff_grammar.specs.declared.pieces.Junction.{Junction}
 use Rattle.tff_grammar.specs.declared.pieces.Keyword.TheVariants.{Tff, Declaration, Conjecture, Premise}

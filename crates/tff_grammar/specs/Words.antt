@@ -1,5 +1,5 @@
 -- The words and signs that the grammar names (TPTP), by their texts.
-use Rattle.std.specs.Prelude.{ℕ, Bool, true, false, ◌||◌, nat_eq, List, Option, Some, None, codes, if◌then◌else◌}
+use Rattle.std.specs.Prelude.{ℕ, Bool, true, false, nat_eq, List, Option, Some, None, codes, if◌then◌else◌}
 use Rattle.std.specs.Cmp.Lexicographic.{pointwise}
 use Prim.Native.String.{String}
 use Rattle.tff_grammar.specs.declared.pieces.Span.{Span}

@@ -1,4 +1,6 @@
 //! Tokens as the grammar sees them.
+ghost use Rattle.std.specs.Prelude.{◌≡◌};
+ghost use Rattle.tff_grammar.specs.Pieces.{bytes_at};
 
 /// A part of the text: the place of its first byte, and that of the byte behind its last, counted from 0.
 #[derive(Clone, Copy, Debug, PartialEq, Eq)]
@@ -7,6 +9,18 @@ pub struct Span {
     pub start: u64,
     /// The place behind its last byte.
     pub end: u64,
+}
+
+impl Span {
+    /// The bytes of a text that stand there: those that it has, where it is too short.
+    pub fn bytes(self, text: &[u8]) -> &[u8]
+        ensures { result.now ≡ bytes_at text.now self }
+    {
+        let start = self.start as usize;
+        let length = (self.end as usize).saturating_sub(start);
+        let rest = &text[start.min(text.len())..];
+        &rest[..length.min(rest.len())]
+    }
 }
 
 /// A numeral: the number that it stands for, and where it stands.

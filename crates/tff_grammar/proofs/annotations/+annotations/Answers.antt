@@ -1,4 +1,4 @@
-use Rattle.std.proofs.Common.{rules, ◌≡◌, ◌≤◌, ◌+◌, arith, ap, sym, length}
+use Rattle.std.proofs.Common.{rules, arith, ap, sym, length}
 use Rattle.tff_grammar.proofs.Squares.{note_goes, square_opens, square_closes, round_goes, round_stops, round_refused, end_refused, wide_refused}
 use Rattle.tff_grammar.proofs.annotations.+annotations.Goals as goal
 

@@ -1,4 +1,4 @@
-use Rattle.std.proofs.Common.{◌≡◌, ◌+◌, ◌*◌, ◌≤◌, length}
+use Rattle.std.proofs.Common.{◌+◌, ◌*◌, ◌≤◌, length}
 use Rattle.tff_grammar.proofs.Squares.{Inside}
 use Rattle.tff_grammar.proofs.annotations.+annotations.Given as goal
 

@@ -1,4 +1,3 @@
-use Rattle.std.proofs.Common.{◌≡◌}
 use Rattle.tff_grammar.proofs.Reading.{relation_reads}
 use Rattle.tff_grammar.proofs.formulas.atom.Goals as goal
 

@@ -1,4 +1,4 @@
-use Rattle.std.proofs.Common.{◌≡◌, ◌≤◌, ◌∙◌, sym, arith, length}
+use Rattle.std.proofs.Common.{◌∙◌, sym, arith}
 use Rattle.tff_grammar.proofs.Answering.{is_text, text_gives, fault_text, stop_text, found_within, pieces_length, whole_same, not_whole}
 use Rattle.tff_grammar.proofs.reader.parse.Goals as goal
 

@@ -1,4 +1,4 @@
-use Rattle.std.proofs.Common.{◌≡◌, length}
+use Rattle.std.proofs.Common.{length}
 use Rattle.tff_grammar.proofs.Spans.{first_span, next_spans, first_form, next_forms, next_pieces, all_pieces}
 use Rattle.tff_grammar.proofs.tokens.pieces.Goals as goal
 
