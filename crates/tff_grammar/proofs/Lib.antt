@@ -1,0 +1,17 @@
+pub mod Runs
+pub mod Completes
+pub mod Reading
+pub mod Table
+pub mod Canonical
+pub mod Texts
+pub mod Squares
+pub mod Answering
+pub mod Viable
+pub mod Shapes
+pub mod Walks
+pub mod Names
+pub mod Places
+pub mod Stops
+pub mod Spans
+pub mod Determined
+pub mod Rows

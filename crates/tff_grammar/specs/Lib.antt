@@ -1,0 +1,9 @@
+pub mod Grammar
+pub mod Text
+pub mod Meaning
+pub mod FirstFault
+pub mod Machine
+pub mod Notes
+pub mod Words
+pub mod Pieces
+pub mod Answer
