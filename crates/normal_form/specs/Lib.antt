@@ -1,0 +1,6 @@
+pub mod Answer
+pub mod Clauses
+pub mod Cnf
+pub mod Count
+pub mod Numbering
+pub mod Quantifiers
