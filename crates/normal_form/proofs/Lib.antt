@@ -1,6 +1,7 @@
 pub mod Counted
 pub mod Folds
 pub mod FormulaCounts
+pub mod Innermost
 pub mod Saturation
 pub mod Signature
 pub mod Silent

@@ -5,10 +5,10 @@ ghost use Rattle.std.specs.Prelude.{◌≡◌, ◌++◌, length, map, IfOk, OnOk
 ghost use Rattle.normal_form.specs.Cnf as spec;
 ghost use Rattle.normal_form.specs.Quantifiers.{is_quantified};
 
+use crate::binders::Binders;
 use crate::counting::{counts_of, may_give_clauses};
 use crate::joins::{disjoined, join};
 use crate::literals::{Clauses, always, atom, less, less_eq, same, unit};
-use crate::scopes::Scope;
 use formula_base::Formula;
 use sqlite_items::Items;
 use std::alloc::{AllocError, Global};
@@ -17,7 +17,7 @@ use term_base::{Symbol, Variable};
 /// The state of the recursion: what is in scope, and the symbols so far.
 #[derive(Drop)]
 pub(crate) struct Conversion {
-    pub(crate) scope: Scope,
+    pub(crate) scope: Binders,
     pub(crate) symbols: Items<Symbol>,
 }
 
@@ -226,7 +226,7 @@ impl Conversion {
 /// Adds the Skolem symbols that stand for these variables.
 fn add_skolem_symbols(
     alloc: Global,
-    scope: &Scope,
+    scope: &Binders,
     variables: &[Variable],
     symbols: &mut Items<Symbol>,
 ) -> Result<(), AllocError>

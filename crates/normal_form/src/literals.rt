@@ -3,7 +3,7 @@
 ghost use Rattle.std.specs.Prelude.{◌≡◌, [], ◌∷◌, IfOk};
 ghost use Rattle.normal_form.specs.Cnf as spec;
 
-use crate::scopes::Scope;
+use crate::binders::Binders;
 use sqlite_items::Items;
 use std::alloc::{AllocError, Global};
 use term_base::{Literal, Term};
@@ -14,7 +14,7 @@ pub(crate) type Clauses = Vec<Items<Literal>>;
 /// A predicate, or its negation.
 pub(crate) fn atom(
     alloc: Global,
-    scope: &Scope,
+    scope: &Binders,
     sign: bool,
     s: &Term,
 ) -> Result<Literal, AllocError>
@@ -31,7 +31,7 @@ pub(crate) fn atom(
 /// An equation, or its negation.
 pub(crate) fn same(
     alloc: Global,
-    scope: &Scope,
+    scope: &Binders,
     sign: bool,
     s: &Term,
     t: &Term,
@@ -50,7 +50,7 @@ pub(crate) fn same(
 /// `s < t` as `s + 1 <= t`, or its negation `t <= s`.
 pub(crate) fn less(
     alloc: Global,
-    scope: &Scope,
+    scope: &Binders,
     sign: bool,
     s: &Term,
     t: &Term,
@@ -69,7 +69,7 @@ pub(crate) fn less(
 /// `s <= t`, or its negation `t + 1 <= s`.
 pub(crate) fn less_eq(
     alloc: Global,
-    scope: &Scope,
+    scope: &Binders,
     sign: bool,
     s: &Term,
     t: &Term,

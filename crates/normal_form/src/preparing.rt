@@ -6,11 +6,11 @@ ghost use Rattle.formula_base.specs.Typing.{IsWellTyped};
 ghost use Rattle.normal_form.specs.Count.{saturated};
 ghost use Rattle.normal_form.specs.Answer.{IsRefusal};
 
+use crate::binders::Binders;
 use crate::conversion::Conversion;
 use crate::counting::count;
 use crate::literals::Clauses;
 use crate::numbering::numbered_all;
-use crate::scopes::Scope;
 use formula_base::{Problem, copy_symbols};
 use sqlite_items::Items;
 use std::alloc::{AllocError, Global};
@@ -79,7 +79,7 @@ fn convert(alloc: Global, problem: &Problem) -> Result<Converted, AllocError>
     ensures symbols { IfOk result (λ c. c.symbols ≡ problem.now.symbols ++ (made problem.now).symbols) }
 {
     let mut conversion = Conversion {
-        scope: Scope::empty(alloc),
+        scope: Binders::empty(alloc),
         symbols: copy_symbols(alloc, problem.symbols.as_slice())?,
     };
     let mut clauses = Vec::new(alloc);

@@ -1,7 +1,7 @@
 //! What is in scope inside quantifiers.
 
 ghost use Rattle.std.specs.Prelude.{◌≡◌, ◌<◌, ◌≤◌, [], map, take, length, IfOk, OnOk};
-ghost use Rattle.normal_form.specs.Cnf.{at_variable, instance, with_universal, with_skolem, skolem};
+ghost use Rattle.normal_form.specs.Cnf.{with_universal, with_skolem, skolem};
 
 use sqlite_items::Items;
 use std::alloc::{AllocError, Global};
@@ -114,44 +114,6 @@ impl Scope {
             sorts.push(u.sort)?;
         }
         Sorts::from_slice(alloc, sorts.as_slice())
-    }
-
-    /// What stands for a variable: the term of the innermost binder with its number, or else the variable.
-    fn at_variable(&self, alloc: Global, v: Variable) -> Result<Term, AllocError>
-        ensures { IfOk result (λ t. t ≡ at_variable self.now.terms v) }
-    {
-        let terms = self.terms.as_slice();
-        let mut behind = terms.len();
-        while behind > 0 {
-            behind -= 1;
-            if terms[behind].0 == v.id {
-                return terms[behind].1.copy(alloc);
-            }
-        }
-        Ok(Term::Var(v))
-    }
-
-    /// The term with what stands for its variables.
-    pub(crate) fn instance(&self, alloc: Global, t: &Term) -> Result<Term, AllocError>
-        ensures { IfOk result (λ u. u ≡ instance self.now t.now) }
-    {
-        match t {
-            Term::Var(v) => self.at_variable(alloc, *v),
-            Term::Num(n) => Ok(Term::Num(*n)),
-            Term::True => Ok(Term::True),
-            Term::Sum(a, b) => {
-                let a = self.instance(alloc, a.get())?;
-                Term::sum(alloc, a, self.instance(alloc, b.get())?)
-            }
-            Term::Scale(k, a) => Term::scale(alloc, *k, self.instance(alloc, a.get())?),
-            Term::App(g, args) => {
-                let mut instances = Items::new(alloc);
-                for arg in args.as_slice() {
-                    instances.push(self.instance(alloc, arg)?)?;
-                }
-                Ok(Term::App(*g, instances))
-            }
-        }
     }
 }
 

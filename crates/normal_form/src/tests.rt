@@ -12,18 +12,18 @@ fn symbol(alloc: Global, name: &[u8], args: &[Sort], sort: Sort) -> Result<Symbo
     ))
 }
 
-fn apply(alloc: Global, f: u32, arg: Term) -> Result<Term, AllocError> {
+pub(crate) fn apply(alloc: Global, f: u32, arg: Term) -> Result<Term, AllocError> {
     let mut args = Items::new(alloc);
     args.push(arg)?;
     Ok(Term::App(f, args))
 }
 
-fn proposition(alloc: Global, f: u32) -> Formula {
+pub(crate) fn proposition(alloc: Global, f: u32) -> Formula {
     Formula::Atom(Term::App(f, Items::new(alloc)))
 }
 
 // 0 is p, from Int to Truth; 1 is c, of sort Int; 2 and 3 are propositions
-fn problem(
+pub(crate) fn problem(
     alloc: Global,
     premise: Formula,
     conjecture: Option<Formula>,
@@ -76,7 +76,7 @@ fn nested(alloc: Global, depth: usize) -> Result<Problem, AllocError> {
     problem(alloc, formula, None)
 }
 
-fn text(alloc: Global, prepared: &Prepared) -> Result<String, AllocError> {
+pub(crate) fn text(alloc: Global, prepared: &Prepared) -> Result<String, AllocError> {
     let mut all = String::new(alloc);
     for clause in prepared.clauses.as_slice() {
         for literal in clause.literals.as_slice() {
