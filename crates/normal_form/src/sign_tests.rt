@@ -106,8 +106,8 @@ fn least(alloc: Global) -> Result<Formula, AllocError> {
 fn makes_a_parameter_of_a_skolem_constant(rt: HostRuntime) -> Result<(), Fail> {
     let alloc = rt.alloc();
     let given = given(alloc, least(alloc)?, None)?;
-    let constant = "Boxed { inner: App(4, Items { items: [] }) }";
-    let want = format!(in alloc; "AtMost(Sum({constant}, Boxed { inner: Num(1) }), {X}) ; 5")?;
+    let sum = "Sum(Boxed { inner: App(4, Items { items: [] }) }, Boxed { inner: Num(1) })";
+    let want = format!(in alloc; "AtMost({sum}, {X}) ; 5")?;
     assert!(rt; given.as_str() == want.as_str());
     Ok(())
 }
