@@ -1,0 +1,4 @@
+pub mod Binders
+pub mod FormulaFolds
+pub mod FormulaInduction
+pub mod Typing

@@ -1,0 +1,11 @@
+//! Problems: typed first-order formulas over a signature, as the premises and the conjecture of a file.
+#![tactic(auto)]
+
+mod formulas;
+mod problems;
+
+pub use formulas::{Formula, copy_formulas};
+pub use problems::{Problem, copy_symbols};
+
+#[cfg(test)]
+mod tests;

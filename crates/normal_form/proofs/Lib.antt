@@ -1,0 +1,11 @@
+pub mod Counted
+pub mod Folds
+pub mod FormulaCounts
+pub mod Innermost
+pub mod Saturation
+pub mod Signature
+pub mod Silent
+pub mod Sorted
+pub mod Steps
+pub mod SymbolsEqual
+pub mod Typed

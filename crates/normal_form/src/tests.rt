@@ -1,0 +1,152 @@
+use crate::{ClausesError, clauses, count};
+use formula_base::{Formula, Problem};
+use sqlite_items::Items;
+use std::alloc::{AllocError, Global};
+use term_base::{Name, Prepared, Sort, Sorts, Symbol, Term, Variable};
+
+fn symbol(alloc: Global, name: &[u8], args: &[Sort], sort: Sort) -> Result<Symbol, AllocError> {
+    Ok(Symbol::new(
+        Name::from_bytes(alloc, name)?,
+        Sorts::from_slice(alloc, args)?,
+        sort,
+    ))
+}
+
+pub(crate) fn apply(alloc: Global, f: u32, arg: Term) -> Result<Term, AllocError> {
+    let mut args = Items::new(alloc);
+    args.push(arg)?;
+    Ok(Term::App(f, args))
+}
+
+pub(crate) fn proposition(alloc: Global, f: u32) -> Formula {
+    Formula::Atom(Term::App(f, Items::new(alloc)))
+}
+
+// 0 is p, from Int to Truth; 1 is c, of sort Int; 2 and 3 are propositions
+pub(crate) fn problem(
+    alloc: Global,
+    premise: Formula,
+    conjecture: Option<Formula>,
+) -> Result<Problem, AllocError> {
+    let mut symbols = Items::new(alloc);
+    symbols.push(symbol(alloc, b"p", &[Sort::Int], Sort::Truth)?)?;
+    symbols.push(symbol(alloc, b"c", &[], Sort::Int)?)?;
+    symbols.push(symbol(alloc, b"q", &[], Sort::Truth)?)?;
+    symbols.push(symbol(alloc, b"r", &[], Sort::Truth)?)?;
+    let mut premises = Items::new(alloc);
+    premises.push(premise)?;
+    Ok(Problem {
+        symbols,
+        sorts: 0,
+        premises,
+        conjecture,
+    })
+}
+
+// the premise ! [X] : (p(X) <=> ? [Y] : Y < X), and the conjecture p(c)
+fn bounded(alloc: Global) -> Result<Problem, AllocError> {
+    let x = Variable::abstraction(0);
+    let y = Variable::abstraction(1);
+    let less = Formula::Less(Term::Var(y), Term::Var(x));
+    let some = Formula::for_some(alloc, Items::from_slice(alloc, &[y])?, less)?;
+    let iff = Formula::equivalence(alloc, Formula::Atom(apply(alloc, 0, Term::Var(x))?), some)?;
+    let premise = Formula::for_all(alloc, Items::from_slice(alloc, &[x])?, iff)?;
+    let conjecture = Formula::Atom(apply(alloc, 0, Term::App(1, Items::new(alloc)))?);
+    problem(alloc, premise, Some(conjecture))
+}
+
+// `length` conjunctions of q and r, joined by `|`
+fn chain(alloc: Global, length: usize) -> Result<Problem, AllocError> {
+    let mut members = Items::new(alloc);
+    for _ in 0..length {
+        let mut pair = Items::new(alloc);
+        pair.push(proposition(alloc, 2))?;
+        pair.push(proposition(alloc, 3))?;
+        members.push(Formula::And(pair))?;
+    }
+    problem(alloc, Formula::Or(members), None)
+}
+
+// `<=>` nested to a depth over `$true`
+fn nested(alloc: Global, depth: usize) -> Result<Problem, AllocError> {
+    let mut formula = Formula::True;
+    for _ in 0..depth {
+        formula = Formula::equivalence(alloc, formula, Formula::True)?;
+    }
+    problem(alloc, formula, None)
+}
+
+pub(crate) fn text(alloc: Global, prepared: &Prepared) -> Result<String, AllocError> {
+    let mut all = String::new(alloc);
+    for clause in prepared.clauses.as_slice() {
+        for literal in clause.literals.as_slice() {
+            let one = format!(in alloc; "{literal:?} ")?;
+            all.push_str(one.as_str())?;
+        }
+        all.push_str("; ")?;
+    }
+    Ok(all)
+}
+
+// p(X0) != true | s4(X0) + 1 <= X0, then X0 <= X1 | p(X0) = true, then p(c) != true, with variables of this kind
+fn bounded_clauses(alloc: Global, kind: &str) -> Result<String, AllocError> {
+    let x = format!(in alloc; "Var(Variable {{ kind: {kind}, sort: Int, id: 0 }})")?;
+    let y = format!(in alloc; "Var(Variable {{ kind: {kind}, sort: Int, id: 1 }})")?;
+    let p = format!(in alloc; "App(0, Items {{ items: [{x}] }})")?;
+    let bound = format!(in alloc; "App(4, Items {{ items: [{x}] }})")?;
+    let first = format!(in alloc;
+        "Differ({p}, True) AtMost(Sum(Boxed {{ inner: {bound} }}, Boxed {{ inner: Num(1) }}), {x}) ; "
+    )?;
+    let second = format!(in alloc; "AtMost({x}, {y}) Equal({p}, True) ; ")?;
+    format!(in alloc;
+        "{first}{second}Differ(App(0, Items {{ items: [App(1, Items {{ items: [] }})] }}), True) ; "
+    )
+}
+
+#[test]
+fn gives_the_clauses_of_an_equivalence(rt: HostRuntime) {
+    let alloc = rt.alloc();
+    let problem = bounded(alloc).expect(&rt, "memory");
+    assert_eq!(rt; count(&problem), 3);
+    for (ordinary, kind) in [(false, "Abstraction"), (true, "Ordinary")] {
+        let prepared = clauses(alloc, &problem, ordinary).expect(&rt, "clauses");
+        let given = text(alloc, &prepared).expect(&rt, "memory");
+        let want = bounded_clauses(alloc, kind).expect(&rt, "memory");
+        assert!(rt; given.as_str() == want.as_str());
+        assert_eq!(rt; prepared.symbols.len(), 5);
+        assert_eq!(rt; prepared.clauses.len(), 3);
+    }
+}
+
+#[test]
+fn refuses_more_than_100000_clauses(rt: HostRuntime) {
+    let alloc = rt.alloc();
+    for (length, want) in [
+        (0, 1),
+        (1, 2),
+        (12, 4_096),
+        (17, 131_072),
+        (63, 9_223_372_036_854_775_808),
+        (64, u64::MAX),
+    ] {
+        let problem = chain(alloc, length).expect(&rt, "memory");
+        assert_eq!(rt; count(&problem), want);
+        match clauses(alloc, &problem, false) {
+            Ok(prepared) => assert_eq!(rt; prepared.clauses.len() as u64, want),
+            Err(ClausesError::TooMany(refusal)) => {
+                assert!(rt; want > 100_000);
+                assert_eq!(rt; refusal.count, want);
+            }
+            Err(ClausesError::Memory) => assert!(rt; false),
+        }
+    }
+}
+
+#[test]
+fn writes_out_no_join_that_is_empty(rt: HostRuntime) {
+    let alloc = rt.alloc();
+    let problem = nested(alloc, 250).expect(&rt, "memory");
+    assert_eq!(rt; count(&problem), 0);
+    let prepared = clauses(alloc, &problem, true).expect(&rt, "clauses");
+    assert_eq!(rt; prepared.clauses.len(), 0);
+}
