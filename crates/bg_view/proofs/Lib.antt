@@ -4,6 +4,7 @@ pub mod Clauses
 pub mod Consequences
 pub mod Distinct
 pub mod Each
+pub mod Keys
 pub mod Forming
 pub mod LinearForms
 pub mod Meaning

@@ -14,6 +14,7 @@ pub record Formed : Type 0 where
   pub sum : Lin
   pub steps : List Wide
 
+-- the sum that is the unknown x
 abbrev pub one_unknown : ℕ → Lin
 one_unknown x = record { coefs = (x, pos 1) ∷ []; constant = pos 0 }
 
@@ -25,6 +26,7 @@ at_once t = record { sum = t; steps = [] }
 abbrev pub plus : Formed → Formed → Formed
 plus a b = record { sum = add a.sum b.sum; steps = a.steps ++ b.steps ++ add_steps a.sum b.sum }
 
+-- the sum is formed, then it is multiplied
 abbrev pub times : ℤ → Formed → Formed
 times k a = record { sum = scale k a.sum; steps = a.steps ++ scale_steps k a.sum }
 
@@ -37,6 +39,7 @@ linear_step n (Sum a b) = plus a b
 linear_step n (Scale k a) = times k a
 linear_step n (App f args) = at_once (one_unknown (n.of_symbol f))
 
+-- Linear of a term
 abbrev pub linear : Numbering → Term → Formed
 linear n = fold-Term Formed (linear_step n)
 
@@ -44,6 +47,7 @@ linear n = fold-Term Formed (linear_step n)
 abbrev pub subtracted : Lin → Lin → Lin
 subtracted t u = add t (negated u)
 
+-- the products with -1, then the sums
 abbrev pub subtract_steps : Lin → Lin → List Wide
 subtract_steps t u = negated_steps u ++ add_steps t (negated u)
 

@@ -34,6 +34,7 @@ value_step p w (App f args) = p f
 abbrev pub value : Symbols → Variables → Term → ℤ
 value p w = fold-Term ℤ (value_step p w)
 
+-- the literal is true at these values
 abbrev pub literal_holds : Symbols → Variables → Literal → Bool
 literal_holds p w (Equal s t) = is_same (value p w s) (value p w t)
 literal_holds p w (Differ s t) = not (is_same (value p w s) (value p w t))
@@ -47,6 +48,7 @@ clause_holds p w c = list_any (literal_holds p w) c.literals
 abbrev pub IsTrueAt : Symbols → Clause → Type 0
 IsTrueAt p c = (w : Variables) → IsTrue (clause_holds p w c)
 
+-- each of the clauses is
 abbrev pub AreTrueAt : Symbols → List Clause → Type 0
 AreTrueAt p clauses = AllByRecursion (IsTrueAt p) clauses
 

@@ -40,18 +40,22 @@ symbols_step (Sum a b) = a ++ b
 symbols_step (Scale k a) = a
 symbols_step (App f args) = f ∷ []
 
+-- the symbols of a term from the left, as often as they occur
 abbrev pub symbols_in : Term → List ℕ
 symbols_in = fold-Term (List ℕ) symbols_step
 
+-- those of the left side, then those of the right side
 abbrev pub symbols_in_literal : Literal → List ℕ
 symbols_in_literal (Equal s t) = symbols_in s ++ symbols_in t
 symbols_in_literal (Differ s t) = symbols_in s ++ symbols_in t
 symbols_in_literal (AtMost s t) = symbols_in s ++ symbols_in t
 
+-- those of the literals in order
 abbrev pub symbols_in_literals : List Literal → List ℕ
 symbols_in_literals [] = []
 symbols_in_literals (l ∷ ls) = symbols_in_literal l ++ symbols_in_literals ls
 
+-- those of the clauses in order
 abbrev pub symbols_in_clauses : List Clause → List ℕ
 symbols_in_clauses [] = []
 symbols_in_clauses (c ∷ cs) = symbols_in_literals c.literals ++ symbols_in_clauses cs
@@ -66,6 +70,7 @@ abbrev pub symbols_of : List Clause → List ℕ
 symbols_of clauses = ascending (symbols_in_clauses clauses)
 
 -- ---- the variables
+-- the variables of the parts in order
 abbrev pub variables_step : Term-F (List Variable) → List Variable
 variables_step (Var v) = v ∷ []
 variables_step (Num k) = []
@@ -74,14 +79,17 @@ variables_step (Sum a b) = a ++ b
 variables_step (Scale k a) = a
 variables_step (App f args) = []
 
+-- the variables of a term from the left, as often as they occur
 abbrev pub variables_in : Term → List Variable
 variables_in = fold-Term (List Variable) variables_step
 
+-- those of the left side, then those of the right side
 abbrev pub variables_in_literal : Literal → List Variable
 variables_in_literal (Equal s t) = variables_in s ++ variables_in t
 variables_in_literal (Differ s t) = variables_in s ++ variables_in t
 variables_in_literal (AtMost s t) = variables_in s ++ variables_in t
 
+-- those of the literals in order
 abbrev pub variables_in_literals : List Literal → List Variable
 variables_in_literals [] = []
 variables_in_literals (l ∷ ls) = variables_in_literal l ++ variables_in_literals ls
@@ -90,6 +98,7 @@ variables_in_literals (l ∷ ls) = variables_in_literal l ++ variables_in_litera
 abbrev pub noted : List Variable → Variable → List Variable
 noted so_far v = if list_any (λ u. same_variable u v) so_far then so_far else so_far ++ v ∷ []
 
+-- the variables so far, and those of a list that aren't among them yet
 abbrev pub all_noted : List Variable → List Variable → List Variable
 all_noted so_far [] = so_far
 all_noted so_far (v ∷ vs) = all_noted (noted so_far v) vs

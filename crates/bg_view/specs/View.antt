@@ -24,6 +24,7 @@ use Rattle.bg_view.specs.Unknowns.{Numbering, numbering, ascending, symbols_in_l
 use Rattle.bg_view.specs.Linear.{Formed, difference}
 
 -- ---- literals
+-- of the terms `true` alone
 abbrev pub truth_step : Term-F Bool → Bool
 truth_step (Var v) = false
 truth_step (Num k) = false
@@ -49,6 +50,7 @@ Gives r f = arithmetic_steps.Forms r f.steps f.facts
 abbrev pub above : Lin → Lin
 above t = add_number (negated t) (pos 1)
 
+-- the product with -1, then the sum with 1
 abbrev pub above_steps : Lin → List Wide
 above_steps t = negated_steps t ++ add_number_steps (negated t) (pos 1)
 
@@ -68,28 +70,35 @@ equal d = record { facts = Zero d.sum ∷ []; steps = d.steps }
 abbrev pub differ_facts : Lin → List Fact
 differ_facts t = AtMostZero (add_number t (pos 1)) ∷ AtMostZero (above t) ∷ []
 
+-- those of the first fact, then those of the second
 abbrev pub differ_steps : Lin → List Wide
 differ_steps t = add_number_steps t (pos 1) ++ above_steps t
 
+-- `t != 0`, as two facts
 abbrev pub differ : Formed → Facts
 differ d = record { facts = differ_facts d.sum; steps = d.steps ++ differ_steps d.sum }
 
--- `0 = 0` and `1 <= 0`
+-- `0 = 0`
 abbrev pub yes : Facts
 yes = record { facts = Zero (number (pos 0)) ∷ []; steps = [] }
 
+-- `1 <= 0`
 abbrev pub no : Facts
 no = record { facts = AtMostZero (number (pos 1)) ∷ []; steps = [] }
 
+-- `s <= t`
 abbrev pub inequality : Numbering → Term → Term → Facts
 inequality n s t = at_most (difference n s t)
 
+-- `s > t`
 abbrev pub strict_inequality : Numbering → Term → Term → Facts
 strict_inequality n s t = more (difference n s t)
 
+-- `s = t`
 abbrev pub equation : Numbering → Term → Term → Facts
 equation n s t = if is_truth s && is_truth t then yes else equal (difference n s t)
 
+-- `s != t`
 abbrev pub disequation : Numbering → Term → Term → Facts
 disequation n s t = if is_truth s && is_truth t then no else differ (difference n s t)
 
@@ -111,6 +120,7 @@ abbrev pub literals_facts : Numbering → List Literal → List Fact
 literals_facts n [] = []
 literals_facts n (l ∷ ls) = (literal_view n l).facts ++ literals_facts n ls
 
+-- their steps in order
 abbrev pub literals_steps : Numbering → List Literal → List Wide
 literals_steps n [] = []
 literals_steps n (l ∷ ls) = (literal_view n l).steps ++ literals_steps n ls
@@ -120,6 +130,7 @@ abbrev pub negated_facts : Numbering → List Literal → List (List Fact)
 negated_facts n [] = []
 negated_facts n (l ∷ ls) = (negated_view n l).facts ∷ negated_facts n ls
 
+-- their steps in order
 abbrev pub negated_steps_of : Numbering → List Literal → List Wide
 negated_steps_of n [] = []
 negated_steps_of n (l ∷ ls) = (negated_view n l).steps ++ negated_steps_of n ls
@@ -128,19 +139,24 @@ negated_steps_of n (l ∷ ls) = (negated_view n l).steps ++ negated_steps_of n l
 abbrev pub clause_numbering : List ℕ → ℕ → Clause → Numbering
 clause_numbering symbols params c = numbering symbols params (variables_of c)
 
+-- the facts of a clause
 abbrev pub clause_facts : List ℕ → ℕ → Clause → List Fact
 clause_facts symbols params c = literals_facts (clause_numbering symbols params c) c.literals
 
+-- their steps
 abbrev pub clause_steps : List ℕ → ℕ → Clause → List Wide
 clause_steps symbols params c = literals_steps (clause_numbering symbols params c) c.literals
 
+-- the facts of each clause
 abbrev pub clauses_facts : List ℕ → ℕ → List Clause → List (List Fact)
 clauses_facts symbols params = map (clause_facts symbols params)
 
+-- the steps of each clause
 abbrev pub clauses_steps : List ℕ → ℕ → List Clause → List (List Wide)
 clauses_steps symbols params = map (clause_steps symbols params)
 
 -- ---- the view of clauses
+-- the pool of the clauses where these are the parameters' symbols
 abbrev pub view_of : List ℕ → List Clause → Viewed
 view_of symbols clauses = record { symbols = symbols; pool = record { params = length symbols; clauses = clauses_facts symbols (length symbols) clauses } }
 
@@ -157,15 +173,18 @@ view_steps clauses = clauses_steps (symbols_of clauses) (length (symbols_of clau
 abbrev pub target_numbering : List ℕ → Clause → Numbering
 target_numbering symbols target = numbering symbols (length symbols) (variables_of target)
 
+-- how many parameters there are: the symbols and the target's variables
 abbrev pub entail_params : List ℕ → Clause → ℕ
 entail_params symbols target = length symbols + length (variables_of target)
 
+-- the clauses, and then the unit clauses of the negated target
 abbrev pub entail_pool_of : List ℕ → List Clause → Clause → Pool
 entail_pool_of symbols clauses target = record {
   params = entail_params symbols target;
   clauses = clauses_facts symbols (entail_params symbols target) clauses ++ negated_facts (target_numbering symbols target) target.literals;
 }
 
+-- that pool, with these symbols
 abbrev pub entail_view_of : List ℕ → List Clause → Clause → Viewed
 entail_view_of symbols clauses target = record { symbols = symbols; pool = entail_pool_of symbols clauses target }
 
@@ -173,6 +192,7 @@ entail_view_of symbols clauses target = record { symbols = symbols; pool = entai
 abbrev pub entail_symbols : List Clause → Clause → List ℕ
 entail_symbols clauses target = ascending (symbols_in_clauses clauses ++ symbols_in_literals target.literals)
 
+-- the pool of the clauses and the negated target, with the symbols of its parameters
 abbrev pub entail_view : List Clause → Clause → Viewed
 entail_view clauses target = entail_view_of (entail_symbols clauses target) clauses target
 
@@ -181,10 +201,12 @@ abbrev pub entail_steps_of : List ℕ → List Clause → Clause → List (List 
 entail_steps_of symbols clauses target =
     clauses_steps symbols (entail_params symbols target) clauses ++ negated_steps_of (target_numbering symbols target) target.literals ∷ []
 
+-- the steps of each clause, and those of the target
 abbrev pub entail_view_steps : List Clause → Clause → List (List Wide)
 entail_view_steps clauses target = entail_steps_of (entail_symbols clauses target) clauses target
 
 -- ---- the answers
+-- the step that leaves the range, with the number n, or a later one
 abbrev pub wide_at : ℕ → Option Wide → Option WideAt → Option WideAt
 wide_at n None later = later
 wide_at n (Some w) later = Some (record { clause = n; wide = w })

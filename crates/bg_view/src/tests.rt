@@ -130,28 +130,142 @@ fn a_false_literal(rt: HostRuntime) {
     assert!(rt; viewed.symbols.is_empty() && is_at_most(clause, &[], 1));
 }
 
-fn is_past(viewed: &Result<Viewed, ViewError>) -> bool {
+// the pool of one unit clause, with this many parameters
+fn unit_facts(viewed: &Viewed, params: u32) -> Option<&[Fact]> {
+    match viewed.pool.clauses.as_slice() {
+        [clause] if viewed.pool.params == params => Some(clause.as_slice()),
+        _ => None,
+    }
+}
+
+// 2u0 - 1 = 0
+fn is_twice_one(viewed: &Viewed) -> bool {
+    match unit_facts(viewed, 1) {
+        Some([Fact::Zero(t)]) => is_sum(t, &[(0, 2)], -1),
+        _ => false,
+    }
+}
+
+// (2 * s0) = 1
+#[test]
+fn an_equation(rt: HostRuntime) -> Result<(), Fail> {
+    let twice = Term::scale(rt.alloc(), 2, s(rt.alloc(), 0))?;
+    let Ok(viewed) = view_of(rt.alloc(), Literal::Equal(twice, Term::Num(1))) else {
+        panic!(rt; "no view");
+    };
+    assert!(rt; viewed.symbols.as_slice() == [0].as_slice() && is_twice_one(&viewed));
+    Ok(())
+}
+
+// 2u0 <= 0 or -2u0 + 2 <= 0
+fn is_apart(viewed: &Viewed) -> bool {
+    match unit_facts(viewed, 0) {
+        Some([Fact::AtMostZero(below), Fact::AtMostZero(above)]) => is_sum(below, &[(0, 2)], 0)
+            && is_sum(above, &[(0, -2)], 2),
+        _ => false,
+    }
+}
+
+// (2 * A0) != 1
+#[test]
+fn a_disequation(rt: HostRuntime) -> Result<(), Fail> {
+    let twice = Term::scale(rt.alloc(), 2, a(0))?;
+    let Ok(viewed) = view_of(rt.alloc(), Literal::Differ(twice, Term::Num(1))) else {
+        panic!(rt; "no view");
+    };
+    assert!(rt; viewed.symbols.is_empty() && is_apart(&viewed));
+    Ok(())
+}
+
+// (3 + 1) <= 2
+#[test]
+fn a_false_inequality(rt: HostRuntime) -> Result<(), Fail> {
+    let four = Term::sum(rt.alloc(), Term::Num(3), Term::Num(1))?;
+    let Ok(viewed) = view_of(rt.alloc(), Literal::AtMost(four, Term::Num(2))) else {
+        panic!(rt; "no view");
+    };
+    let [clause] = viewed.pool.clauses.as_slice() else {
+        panic!(rt; "no unit clause");
+    };
+    assert!(rt; viewed.pool.params == 0 && is_at_most(clause, &[], 2));
+    Ok(())
+}
+
+// (3 * s0) + (-1 * (3 * s1))
+fn three_apart(alloc: Global) -> Result<Term, AllocError> {
+    let right = Term::scale(alloc, -1, Term::scale(alloc, 3, s(alloc, 1))?)?;
+    Term::sum(alloc, Term::scale(alloc, 3, s(alloc, 0))?, right)
+}
+
+// 1 <= 3s0 - 3s1 and 3s0 - 3s1 <= 2
+fn one_to_two(alloc: Global) -> Result<Items<Clause>, AllocError> {
+    let mut clauses = Items::new(alloc);
+    clauses.push(unit(alloc, Literal::AtMost(Term::Num(1), three_apart(alloc)?))?)?;
+    clauses.push(unit(alloc, Literal::AtMost(three_apart(alloc)?, Term::Num(2)))?)?;
+    Ok(clauses)
+}
+
+// -3u0 + 3u1 + 1 <= 0; 3u0 - 3u1 - 2 <= 0
+fn is_one_to_two(viewed: &Viewed) -> bool {
+    match viewed.pool.clauses.as_slice() {
+        [first, second] => is_at_most(first, &[(0, -3), (1, 3)], 1)
+            && is_at_most(second, &[(0, 3), (1, -3)], -2),
+        _ => false,
+    }
+}
+
+#[test]
+fn two_bounds(rt: HostRuntime) -> Result<(), Fail> {
+    let clauses = one_to_two(rt.alloc())?;
+    if !are_background(&[], clauses.as_slice()) {
+        panic!(rt; "no background clauses");
+    }
+    let Ok(viewed) = view(rt.alloc(), &[], clauses.as_slice()) else {
+        panic!(rt; "no view");
+    };
+    assert!(rt; viewed.pool.params == 2 && is_one_to_two(&viewed));
+    Ok(())
+}
+
+fn is_past(viewed: &Result<Viewed, ViewError>, clause: u32) -> bool {
     let past = Wide {
         op: Op::Add,
         left: i128::MAX,
         right: 1,
     };
     match viewed {
-        Err(ViewError::Wide(at)) => at.clause == 0 && at.wide == past,
+        Err(ViewError::Wide(at)) => at.clause == clause && at.wide == past,
         _ => false,
     }
 }
 
 // (2^127 - 1 + 1) <= -1
-fn past_the_range(alloc: Global) -> Result<Viewed, ViewError> {
+fn past(alloc: Global) -> Result<Literal, AllocError> {
     let left = Term::sum(alloc, Term::Num(i128::MAX), Term::Num(1))?;
-    view_of(alloc, Literal::AtMost(left, Term::Num(-1)))
+    Ok(Literal::AtMost(left, Term::Num(-1)))
+}
+
+fn past_the_range(alloc: Global) -> Result<Viewed, ViewError> {
+    view_of(alloc, past(alloc)?)
+}
+
+// s0 <= 0 without the literal past the range: the target counts as the last clause
+fn target_past_the_range(alloc: Global) -> Result<Viewed, ViewError> {
+    let mut clauses = Items::new(alloc);
+    clauses.push(unit(alloc, Literal::AtMost(s(alloc, 0), Term::Num(0)))?)?;
+    let target = unit(alloc, past(alloc)?)?;
+    entail_view_of(alloc, clauses.as_slice(), &target)
+}
+
+#[test]
+fn a_target_past_the_range(rt: HostRuntime) {
+    assert!(rt; is_past(&target_past_the_range(rt.alloc()), 1));
 }
 
 #[test]
 fn sums_past_the_range(rt: HostRuntime) {
-    assert!(rt; is_past(&past_the_range(rt.alloc())));
+    assert!(rt; is_past(&past_the_range(rt.alloc()), 0));
     // Linear of s0 != 2^127 - 1 stays in the range, and its second fact doesn't
     let apart = Literal::Differ(s(rt.alloc(), 0), Term::Num(i128::MAX));
-    assert!(rt; is_past(&view_of(rt.alloc(), apart)));
+    assert!(rt; is_past(&view_of(rt.alloc(), apart), 0));
 }

@@ -6,6 +6,7 @@ ghost use Rattle.lin_base.specs.declared.wides.ArithmeticError.TheVariants.{Memo
 ghost use Rattle.bg_view.specs.Unknowns as spec;
 ghost use Rattle.bg_view.specs.Numbers.{IsNumbering, numbering_of};
 
+use indexmap::IndexSet;
 use lin_base::ArithmeticError;
 use sqlite_items::Items;
 use std::alloc::{AllocError, Global};
@@ -18,8 +19,8 @@ pub(crate) struct Unknowns<'a> {
     pub(crate) symbols: &'a [u32],
     /// The unknown of the first variable.
     pub(crate) first: u32,
-    /// The variables.
-    pub(crate) variables: Items<Variable>,
+    /// The variables, in order.
+    pub(crate) variables: IndexSet<Variable>,
 }
 
 fn rank(symbols: &[u32], f: u32) -> usize
@@ -32,18 +33,14 @@ fn rank(symbols: &[u32], f: u32) -> usize
     }
 }
 
-fn place(variables: &[Variable], v: Variable) -> usize
-    ensures place { result ≡ spec.place v variables.now }
-    ensures bound { result ≤ length variables.now }
+fn place(variables: &IndexSet<Variable>, v: Variable) -> usize
+    ensures place { result ≡ spec.place v variables.now.keys }
+    ensures bound { result ≤ length variables.now.keys }
 {
-    let mut at = 0;
-    for u in variables {
-        if u.same(v) {
-            return at;
-        }
-        at += 1;
+    match variables.get_index_of(&v) {
+        Some(at) => at,
+        None => variables.len(),
     }
-    at
 }
 
 impl Unknowns<'_> {
@@ -60,7 +57,7 @@ impl Unknowns<'_> {
         requires { IsNumbering self.now }
         ensures { result ≡ (numbering_of self.now).of_variable v }
     {
-        self.first + place(self.variables.as_slice(), v) as u32
+        self.first + place(&self.variables, v) as u32
     }
 }
 
@@ -68,14 +65,14 @@ impl Unknowns<'_> {
 pub(crate) fn numbered<'a>(
     symbols: &'a [u32],
     first: u32,
-    variables: Items<Variable>,
+    variables: IndexSet<Variable>,
 ) -> Result<Unknowns<'a>, ArithmeticError>
     requires ascending { IsStrictlyIncreasing symbols.now }
     requires after { length symbols.now ≤ first }
     ensures is { IfOk result (λ u. IsNumbering u) }
     ensures first { IfOk result (λ u. u.first ≡ first) }
     ensures variables { IfOk result (λ u. u.variables ≡ variables) }
-    ensures numbering { IfOk result (λ u. numbering_of u ≡ spec.numbering symbols.now first variables) }
+    ensures numbering { IfOk result (λ u. numbering_of u ≡ spec.numbering symbols.now first variables.keys) }
     ensures memory { IfErr result (λ e. e ≡ Memory) }
 {
     let Ok(count) = u32::try_from(variables.len()) else {
@@ -155,18 +152,16 @@ pub(crate) fn ascending(numbers: Vec<u32>) -> Items<u32>
 }
 
 /// Appends a variable that isn't there yet.
-fn note(v: Variable, variables: &mut Vec<Variable>) -> Result<(), AllocError>
-    ensures { OnOk result (variables.new.items ≡ spec.noted variables.old.items v) }
+fn note(v: Variable, variables: &mut IndexSet<Variable>) -> Result<(), AllocError>
+    ensures { OnOk result (variables.new.keys ≡ spec.noted variables.old.keys v) }
 {
-    if place(variables.as_slice(), v) == variables.len() {
-        variables.push(v)?;
-    }
+    variables.insert_full(v)?;
     Ok(())
 }
 
 #[tactic(auto, using(crate::proofs::Noting::noting))]
-fn note_variables(t: &Term, variables: &mut Vec<Variable>) -> Result<(), AllocError>
-    ensures { OnOk result (variables.new.items ≡ spec.all_noted variables.old.items (spec.variables_in t.now)) }
+fn note_variables(t: &Term, variables: &mut IndexSet<Variable>) -> Result<(), AllocError>
+    ensures { OnOk result (variables.new.keys ≡ spec.all_noted variables.old.keys (spec.variables_in t.now)) }
 {
     match t {
         Term::Num(_) | Term::True | Term::App(_, _) => Ok(()),
@@ -180,8 +175,8 @@ fn note_variables(t: &Term, variables: &mut Vec<Variable>) -> Result<(), AllocEr
 }
 
 #[tactic(auto, using(crate::proofs::Noting::noting))]
-fn note_literal_variables(l: &Literal, variables: &mut Vec<Variable>) -> Result<(), AllocError>
-    ensures { OnOk result (variables.new.items ≡ spec.all_noted variables.old.items (spec.variables_in_literal l.now)) }
+fn note_literal_variables(l: &Literal, variables: &mut IndexSet<Variable>) -> Result<(), AllocError>
+    ensures { OnOk result (variables.new.keys ≡ spec.all_noted variables.old.keys (spec.variables_in_literal l.now)) }
 {
     match l {
         Literal::Equal(s, t) | Literal::Differ(s, t) | Literal::AtMost(s, t) => {
@@ -193,12 +188,12 @@ fn note_literal_variables(l: &Literal, variables: &mut Vec<Variable>) -> Result<
 
 /// The variables of a clause by first place.
 #[tactic(auto, using(crate::proofs::Noting::noting))]
-pub(crate) fn variables_of(alloc: Global, c: &Clause) -> Result<Items<Variable>, AllocError>
-    ensures { IfOk result (λ vs. vs ≡ spec.variables_of c.now) }
+pub(crate) fn variables_of(alloc: Global, c: &Clause) -> Result<IndexSet<Variable>, AllocError>
+    ensures { IfOk result (λ vs. vs.keys ≡ spec.variables_of c.now) }
 {
-    let mut variables = Vec::new(alloc);
+    let mut variables = IndexSet::new(alloc);
     for literal in c.literals.as_slice() {
         note_literal_variables(literal, &mut variables)?;
     }
-    Ok(Items::from_vec(variables))
+    Ok(variables)
 }

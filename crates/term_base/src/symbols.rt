@@ -13,7 +13,7 @@ use std::marker::Model;
 
 /// A sort: individuals (`$i` of TPTP), whole numbers (`$int`), a declared sort by its number from 0, or
 /// truth values (`$o`).
-#[derive(Clone, Copy, Debug, Default, PartialEq, Eq, PartialOrd, Ord)]
+#[derive(Clone, Copy, Debug, Default, PartialEq, Eq, PartialOrd, Ord, Hash)]
 pub enum Sort {
     #[default]
     Individual,

@@ -8,7 +8,7 @@ use std::cmp::Ordering;
 
 /// The kind of a variable: an abstraction variable stands for pure terms alone, an ordinary one for any
 /// term of its sort.
-#[derive(Clone, Copy, Debug, PartialEq, Eq, PartialOrd, Ord)]
+#[derive(Clone, Copy, Debug, PartialEq, Eq, PartialOrd, Ord, Hash)]
 pub enum Kind {
     Abstraction,
     Ordinary,
@@ -16,7 +16,7 @@ pub enum Kind {
 
 /// A variable. An abstraction variable has sort Int, and no variable has sort Truth.
 /// Variables are ordered by kind, then by sort, then by number.
-#[derive(Clone, Copy, Debug, PartialEq, Eq, PartialOrd, Ord)]
+#[derive(Clone, Copy, Debug, PartialEq, Eq, PartialOrd, Ord, Hash)]
 pub struct Variable {
     pub kind: Kind,
     pub sort: Sort,

@@ -3,4 +3,4 @@ use Rattle.bg_view.specs.Unknowns.{all_noted, variables_in_literals}
 use Rattle.bg_view.proofs.unknowns.variables_of.Given as goal
 
 abbrev pub invariant-loop-literal : goal.invariant-loop-literal
-invariant-loop-literal l = all_noted [] (variables_in_literals l.literal-items) ≡ all_noted l.variables.items (variables_in_literals (drop l.literal-index l.literal-items))
+invariant-loop-literal l = all_noted [] (variables_in_literals l.literal-items) ≡ all_noted l.variables.keys (variables_in_literals (drop l.literal-index l.literal-items))
