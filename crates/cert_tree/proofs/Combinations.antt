@@ -19,7 +19,7 @@ if_both : {A : Type 0} (a b : Bool) (x : A) → cond (a && b) (Some x) None ≡ 
 if_both true b x = refl
 if_both false b x = refl
 
-if_narrow-append : {A : Type 0} (ss ts : List Wide) (x : A) → if_narrow (ss ++ ts) x ≡ cond (is_narrow ss) (if_narrow ts x) None
+pub if_narrow-append : {A : Type 0} (ss ts : List Wide) (x : A) → if_narrow (ss ++ ts) x ≡ cond (is_narrow ss) (if_narrow ts x) None
 if_narrow-append ss ts x = ap (λ b. cond b (Some x) None) (is_narrow-append ss ts) ∙ if_both (is_narrow ss) (is_narrow ts) x
 
 cond_none : {A : Type 0} (b : Bool) → cond b (let n : Option A = None in n) None ≡ None

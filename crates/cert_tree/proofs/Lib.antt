@@ -12,6 +12,8 @@ pub mod Replacing
 pub mod Numbered
 pub mod Bounding
 pub mod Rowing
+pub mod Completion
+pub mod ValueChecks
 pub mod Narrow
 pub mod Combinations
 pub mod WellFormed

@@ -42,7 +42,7 @@ up a h = omega (arith, ints, h)
 pub one_up : (z : ℤ) → pos 0 <ℤ z → pos 1 ≤ℤ z
 one_up z h = omega (arith, ints, h)
 
-zero_up : (z : ℤ) → pos 1 ≤ℤ z → pos 0 <ℤ z
+pub zero_up : (z : ℤ) → pos 1 ≤ℤ z → pos 0 <ℤ z
 zero_up z h = omega (arith, ints, h)
 
 pub lower_bound_is : (p : ℕ) (d : ℤ) (f : Fact) → is_fact f ≡ true → IfSome (option_map bound_of (lower_bound p d f)) (λ b. IsTrue (is_side p b.side))

@@ -1,17 +1,18 @@
 -- Complete of a clause and one of its variables.
 use Rattle.std.specs.Prelude.{ℕ, ℤ, pos, ◌*ℤ◌, List, [], ◌∷◌, ◌++◌, map, Option, Some, None, if◌then◌else◌}
 use Rattle.std.specs.List.{filter_map, flat_map, list_any}
+use Rattle.lin_base.specs.declared.sums.Lin.{Lin}
 use Rattle.lin_base.specs.declared.facts.Fact.{Fact}
 use Rattle.lin_base.specs.declared.facts.Fact.TheVariants.{AtMostZero, Zero}
 use Rattle.lin_base.specs.declared.wides.Wide.{Wide}
 use Rattle.lin_base.specs.Whole.{is_positive, is_zero}
 use Rattle.lin_base.specs.Sum.{coef, without, add_number}
-use Rattle.lin_base.specs.Steps.{multiplies, add_number_steps}
+use Rattle.lin_base.specs.Steps.{multiplies, add_number_steps, replace_all_steps}
 use Rattle.cert_tree.specs.declared.certs.Row.{Row}
 use Rattle.cert_tree.specs.declared.certs.Row.TheVariants.{Inst, Low}
 use Rattle.cert_tree.specs.Counting.{numbers_below}
 use Rattle.cert_tree.specs.Points.{Side, made_positive, period, period_steps}
-use Rattle.cert_tree.specs.Rows.{bounds_above, row_clause, row_steps}
+use Rattle.cert_tree.specs.Rows.{bounds_above, instance_at, low_at, low_steps, row_clause}
 use Rattle.cert_tree.specs.Children.{above, above_steps}
 
 -- `b*x + u` with b positive: of an AtMostZero literal, or a Zero literal made so
@@ -40,15 +41,59 @@ complete_rows n x clause = flat_map (instances n x (period x clause)) (filter_ma
 abbrev pub complete : ℕ → List Fact → List (List Fact)
 complete x clause = map (row_clause clause) (complete_rows 0 x clause)
 
--- ---- the order
-abbrev pub instance_steps : ℕ → List Fact → Side → ℕ → List Wide
-instance_steps x clause e j = add_number_steps (above e.rest) (pos j) ++ row_steps clause (instance 0 x e j)
+-- ---- the clauses without their rows, and the order of their steps
+-- the clause at b*x = s + j
+abbrev pub moved_instance : ℕ → List Fact → ℤ → Lin → ℕ → List Fact
+moved_instance x clause b s j = instance_at x b (add_number s (pos j)) clause
 
-abbrev pub instances_steps : ℕ → List Fact → Side → List Wide
-instances_steps x clause e =
-    e.steps ++ multiplies e.b (period x clause) ∷ above_steps e.rest
-    ++ flat_map (instance_steps x clause e) (numbers_below (e.b *ℤ period x clause))
+abbrev pub moved_steps : ℕ → List Fact → ℤ → Lin → ℕ → List Wide
+moved_steps x clause b s j = add_number_steps s (pos j) ++ replace_all_steps x b (add_number s (pos j)) clause
 
+-- at all instances above b*x + u
+abbrev pub instances_at : ℕ → List Fact → ℤ → ℤ → Lin → List (List Fact)
+instances_at x clause d b u = map (moved_instance x clause b (above u)) (numbers_below (b *ℤ d))
+
+-- b*D, then 1 - u
+abbrev pub above_bound_steps : ℤ → ℤ → Lin → List Wide
+above_bound_steps d b u = multiplies b d ∷ above_steps u
+
+-- then the instances
+abbrev pub instances_steps : ℕ → List Fact → ℤ → ℤ → Lin → List Wide
+instances_steps x clause d b u = above_bound_steps d b u ++ flat_map (moved_steps x clause b (above u)) (numbers_below (b *ℤ d))
+
+-- of a literal
+abbrev pub literal_instances : ℕ → List Fact → ℤ → Option Side → List (List Fact)
+literal_instances x clause d None = []
+literal_instances x clause d (Some e) = instances_at x clause d e.b e.rest
+
+abbrev pub literal_steps : ℕ → List Fact → ℤ → Option Side → List Wide
+literal_steps x clause d None = []
+literal_steps x clause d (Some e) = e.steps ++ instances_steps x clause d e.b e.rest
+
+-- of the literals in order
+abbrev pub uppers_at : ℕ → List Fact → ℤ → List Fact → List (List Fact)
+uppers_at x clause d fs = flat_map (λ f. literal_instances x clause d (upper x f)) fs
+
+abbrev pub uppers_steps : ℕ → List Fact → ℤ → List Fact → List Wide
+uppers_steps x clause d fs = flat_map (λ f. literal_steps x clause d (upper x f)) fs
+
+abbrev pub upper_steps : Option Side → List Wide
+upper_steps None = []
+upper_steps (Some e) = e.steps
+
+-- far down, by remainder
+abbrev pub numbered_lows : ℕ → List Fact → List ℕ → List (List Fact)
+numbered_lows x clause js = map (λ j. low_at x (pos j) clause) js
+
+abbrev pub numbered_low_steps : ℕ → List Fact → List ℕ → List Wide
+numbered_low_steps x clause js = flat_map (λ j. low_steps x (pos j) clause) js
+
+abbrev pub lows_at : ℕ → List Fact → ℤ → List (List Fact)
+lows_at x clause d = if list_any (bounds_above x) clause then [] else numbered_lows x clause (numbers_below d)
+
+abbrev pub lows_steps : ℕ → List Fact → ℤ → List Wide
+lows_steps x clause d = if list_any (bounds_above x) clause then [] else numbered_low_steps x clause (numbers_below d)
+
+-- D first, then the instances by literal; the Low rows come last
 abbrev pub complete_steps : ℕ → List Fact → List Wide
-complete_steps x clause =
-    period_steps x clause ++ flat_map (instances_steps x clause) (filter_map (upper x) clause) ++ flat_map (row_steps clause) (lows 0 x clause)
+complete_steps x clause = period_steps x clause ++ (uppers_steps x clause (period x clause) clause ++ lows_steps x clause (period x clause))

@@ -1,5 +1,5 @@
 -- The check of values.
-use Rattle.std.specs.Prelude.{ℕ, suc, ℤ, pos, Bool, ◌==◌, ◌&&◌, length, IsTrue, List, [], ◌∷◌, ◌++◌, map}
+use Rattle.std.specs.Prelude.{ℕ, suc, ℤ, pos, Bool, ◌==◌, ◌&&◌, length, IsTrue, List, [], ◌∷◌, ◌++◌, map, if◌then◌else◌}
 use Rattle.std.specs.List.{list_all}
 use Rattle.lin_base.specs.declared.facts.Fact.{Fact}
 use Rattle.lin_base.specs.declared.facts.Pool.{Pool}
@@ -8,7 +8,16 @@ use Rattle.lin_base.specs.Sum.{number}
 use Rattle.lin_base.specs.Fact.{clause_holds}
 use Rattle.lin_base.specs.Change.{replace}
 use Rattle.lin_base.specs.Steps.{replace_all_steps, is_narrow}
+use Rattle.cert_tree.specs.Counting.{occurs_in}
+use Rattle.cert_tree.specs.Complete.{complete, complete_steps}
 use Rattle.cert_tree.specs.Ground.{Grounding, ground_clause}
+
+-- the clause with z for p, and its steps
+abbrev pub at_value : ℕ → ℤ → List Fact → List Fact
+at_value p z clause = map (replace p (pos 1) (number z)) clause
+
+abbrev pub at_steps : ℕ → ℤ → List Fact → List Wide
+at_steps p z clause = replace_all_steps p (pos 1) (number z) clause
 
 -- the values put for the parameters from p on, one after the other
 abbrev pub put_from : ℕ → List ℤ → List Fact → List Fact
@@ -37,3 +46,9 @@ checks pool values = length values == pool.params && list_all (clause_checks poo
 
 abbrev pub Holds : Pool → List ℤ → Type 0
 Holds pool values = IsTrue (checks pool values)
+
+-- the clauses without unknowns, down from a clause by these variables, are true and their steps stay in the range
+abbrev pub ground_holds : List ℕ → List Fact → Bool
+ground_holds [] clause = clause_holds (λ x. pos 0) clause
+ground_holds (x ∷ xs) clause =
+    if occurs_in x clause then is_narrow (complete_steps x clause) && list_all (ground_holds xs) (complete x clause) else ground_holds xs clause

@@ -8,6 +8,7 @@ pub mod Bounds
 pub mod Stands
 pub mod Leasts
 pub mod Complete
+pub mod Above
 pub mod Ground
 pub mod Holds
 pub mod Search

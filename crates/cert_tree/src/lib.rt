@@ -4,6 +4,8 @@
 mod certs;
 mod children;
 mod clauses;
+mod completing;
+mod holding;
 mod laws;
 mod rows;
 mod standing;
@@ -11,7 +13,12 @@ mod sums;
 mod test_points;
 #[cfg(test)]
 mod tests;
+mod variables;
 
 pub use certs::{Cert, Row, Tree};
-pub use laws::standing_is_impossible;
+pub use holding::check_sat;
+pub use laws::{
+    checked_values_are_true, complete_has_every_case, least_has_every_case, standing_is_impossible,
+    true_values_are_checked,
+};
 pub use standing::check_unsat;

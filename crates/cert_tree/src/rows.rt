@@ -128,9 +128,25 @@ pub fn formed_instance(
     Ok(made)
 }
 
-/// The clause where `x` is far down and `j` modulo the period: its AtMostZero and Zero literals with `x` are left out, and in the others `j` is put for `x`.
+/// The clause where `x` is far down: its AtMostZero and Zero literals with `x` are left out, and in the others `t` is put for `x`.
+pub fn formed_far_down(
+    alloc: Global,
+    x: u32,
+    t: &Lin,
+    clause: &[Fact],
+) -> Result<Items<Fact>, ArithmeticError>
+    requires absent { occurs x t.now ≡ false }
+    requires value { IsTrue (is_lin t.now) }
+    requires clause { IsTrue (list_all is_fact clause.now) }
+    ensures { Forms result (replace_all_steps x (pos 1) t.now (spec.stays_in x clause.now)) (map (replace x (pos 1) t.now) (spec.stays_in x clause.now)) }
+{
+    let kept = stays_in(alloc, x, clause)?;
+    replace_all(alloc, x, 1, t, kept.as_slice())
+}
+
+/// The clause where `x` is far down and `j` modulo the period.
 #[tactic(auto, using(crate::proofs::Forming::forming))]
-pub fn formed_low(
+fn formed_low(
     alloc: Global,
     x: u32,
     j: &i128,
@@ -139,8 +155,7 @@ pub fn formed_low(
     requires { IsTrue (list_all is_fact clause.now) }
     ensures { Forms result (spec.low_steps x j.now clause.now) (spec.low_at x j.now clause.now) }
 {
-    let kept = stays_in(alloc, x, clause)?;
-    replace_all(alloc, x, 1, &number(alloc, *j), kept.as_slice())
+    formed_far_down(alloc, x, &number(alloc, *j), clause)
 }
 
 /// Whether `x` is a variable of the clause, `a` at least 1, and `t` a sum over parameters and other variables of the clause.
@@ -227,11 +242,7 @@ fn clause_of(row: &Row) -> u32
 }
 
 /// The clause that a row gives over the clauses of a pool, where it stands.
-fn row_over(
-    alloc: Global,
-    pool: &Pool,
-    row: &Row,
-) -> Result<Option<Items<Fact>>, AllocError>
+fn row_over(alloc: Global, pool: &Pool, row: &Row) -> Result<Option<Items<Fact>>, AllocError>
     requires { IsTrue (is_pool pool.now) }
     ensures value { IfOk result (λ c. c ≡ spec.row_over pool.now.params pool.now.clauses row.now) }
     ensures well_formed { IfOk result (λ c. IfSome c (λ fs. IsTrue (list_all is_fact fs))) }
@@ -243,11 +254,7 @@ fn row_over(
 }
 
 /// The pool, its clauses followed by those that the rows give, one after the other. None where a row doesn't stand.
-pub fn extended(
-    alloc: Global,
-    pool: &Pool,
-    rows: &[Row],
-) -> Result<Option<Pool>, AllocError>
+pub fn extended(alloc: Global, pool: &Pool, rows: &[Row]) -> Result<Option<Pool>, AllocError>
     requires { IsTrue (is_pool pool.now) }
     ensures value { IfOk result (λ o. option_map (λ p. p.clauses) o ≡ spec.extended pool.now.params rows.now pool.now.clauses) }
     ensures params { IfOk result (λ o. IfSome o (λ p. p.params ≡ pool.now.params)) }

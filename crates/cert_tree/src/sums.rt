@@ -26,7 +26,7 @@ pub fn narrow<T: Drop>(formed: Result<T, ArithmeticError>) -> Result<Option<T>, 
 
 /// `-t + 1`
 #[tactic(auto, using(crate::proofs::Forming::forming))]
-fn formed_above(alloc: Global, t: &Lin) -> Result<Lin, ArithmeticError>
+pub fn formed_above(alloc: Global, t: &Lin) -> Result<Lin, ArithmeticError>
     requires { IsTrue (is_lin t.now) }
     ensures formed { Forms result (above_steps t.now) (above t.now) }
     ensures well_formed { IfOk result (λ u. IsTrue (is_lin u)) }
@@ -55,7 +55,7 @@ pub struct Side {
 }
 
 /// The coefficient of `x` and the rest.
-fn parts_at(alloc: Global, x: u32, t: &Lin) -> Result<Side, AllocError>
+pub fn parts_at(alloc: Global, x: u32, t: &Lin) -> Result<Side, AllocError>
     requires { IsTrue (is_lin t.now) }
     ensures { IfOk result (λ e. e ≡ record { b = coef x t.now; rest = sum.without x t.now }) }
 {

@@ -166,7 +166,7 @@ pub fn is_count(count: &i128, available: usize) -> bool
 
 /// The bound moved up by `j`.
 #[tactic(auto, using(crate::proofs::Forming::forming))]
-fn moved_up(alloc: Global, p: u32, side: &Side, j: usize) -> Result<Side, ArithmeticError>
+pub fn moved_up(alloc: Global, p: u32, side: &Side, j: usize) -> Result<Side, ArithmeticError>
     requires { IsTrue (is_side p side.now) }
     ensures formed { Forms result (add_number_steps side.now.rest (pos j)) (moved_by side.now j) }
     ensures value { IfOk result (λ moved. IsTrue (is_lin moved.rest)) }
