@@ -1,6 +1,8 @@
 //! The program: reads a problem from standard input and writes the answer to standard output.
 #![tactic(auto)]
 
+ghost use Rattle.std.specs.Prelude.{◌≡◌, drop};
+
 use beagle_top::beagle;
 use beagle_top::statuses::MEMORY;
 use byte_ends::{StdSink, StdSource};
@@ -10,14 +12,24 @@ use std::io::ErrorKind;
 use std::process::ExitCode;
 use std::rt::Env;
 
-// The words on the command line without the program's name. Where they are no text, one empty word stands for them:
-// like every word, it is refused as wrong usage.
+// The words on the command line, the program's name first. Where they are no text, an empty word stands for them behind
+// an empty name: like every word, it is refused as wrong usage.
 fn words(rt: &(impl Env + AllocGlobal)) -> Result<Vec<String>, AllocError> {
     let alloc = rt.alloc();
     match env::args(rt) {
-        Ok(words) => words.skip(1).collect(alloc),
+        Ok(words) => words.collect(alloc),
         Err(error) if error.kind() == ErrorKind::OutOfMemory => Err(AllocError),
-        Err(_) => Ok(vec![in alloc; String::new(alloc)]?),
+        Err(_) => Ok(vec![in alloc; String::new(alloc), String::new(alloc)]?),
+    }
+}
+
+// The words behind the program's name.
+fn behind_name(words: &[String]) -> &[String]
+    ensures { result.now ≡ drop 1 words.now }
+{
+    match words {
+        [] => words,
+        [_name, rest @ ..] => rest,
     }
 }
 
@@ -27,5 +39,6 @@ fn main(rt: HostRuntime) -> ExitCode {
     };
     let mut source = StdSource::new(rt.stdin());
     let mut sink = StdSink::new(rt.stdout());
-    ExitCode::from(beagle(rt.alloc(), &words, &mut source, &mut sink).status)
+    let ended = beagle(rt.alloc(), behind_name(&words), &mut source, &mut sink);
+    ExitCode::from(ended.status)
 }

@@ -5,3 +5,4 @@ pub mod Statements
 pub mod Files
 pub mod Closing
 pub mod OneAnswer
+mod Worked

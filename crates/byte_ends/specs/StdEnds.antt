@@ -1,4 +1,4 @@
--- What the adapters over std have inside.
+-- What the adapters over std have inside: the type of a reader or a writer is a parameter, so a caller sees the two parts by name and not one value.
 use Rattle.std.specs.Prelude.{ℕ}
 use Rattle.byte_ends.specs.declared.std_adapters.StdSource.{StdSource}
 use Rattle.byte_ends.specs.declared.std_adapters.StdSink.{StdSink}

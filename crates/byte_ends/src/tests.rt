@@ -42,6 +42,20 @@ impl Write for Flushed {
     }
 }
 
+// A writer that takes all, and can't flush it.
+#[derive(Drop)]
+struct Unflushed;
+
+impl Write for Unflushed {
+    fn write(&mut self, from: &[u8]) -> io::Result<usize> {
+        Ok(from.len())
+    }
+
+    fn flush(&mut self) -> io::Result<()> {
+        Err(io::Error::from(io::ErrorKind::BrokenPipe))
+    }
+}
+
 #[test]
 fn reads_up_to_the_limit(rt: HostRuntime) -> Result<(), Fail> {
     let alloc = rt.alloc();
@@ -75,7 +89,8 @@ fn reads_many_bytes(rt: HostRuntime) -> Result<(), Fail> {
     let alloc = rt.alloc();
     let mut bytes = vec![in alloc; 7u8; 16 << 20]?;
     bytes.push(8)?;
-    let mut source = MemorySource::new(bytes, Vec::new(alloc));
+    // Pieces of 16 KiB and less would come to the call that fails.
+    let mut source = MemorySource::new(bytes, vec![in alloc; 1000u64]?);
     let all = read_all(alloc, &mut source, 1 << 30)?;
     assert_eq!(rt; all.len(), (16 << 20) + 1);
     assert_eq!(rt; all.last(), Some(&8));
@@ -152,6 +167,8 @@ fn std_failures(rt: HostRuntime) -> Result<(), Fail> {
         Err(end) => assert_eq!(rt; end, ReadEnd::Failed),
     }
     let mut sink = StdSink::new(Broken);
+    assert_eq!(rt; put_all(&mut sink, TEXT), Err(Failed));
+    let mut sink = StdSink::new(Unflushed);
     assert_eq!(rt; put_all(&mut sink, TEXT), Err(Failed));
 
     // A writer that is full takes nothing, and says no error.
