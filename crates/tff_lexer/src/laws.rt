@@ -1,5 +1,5 @@
 //! Laws of the definitions, each the contract of a function that does nothing.
-ghost use Rattle.std.specs.Prelude.{◌≡◌, ℕ, ◌≤◌, List, ◌++◌, Option, IsTrue, codes, length};
+ghost use Rattle.std.specs.Prelude.{◌≡◌, ℕ, ◌≤◌, List, ◌++◌, Option, Some, IsTrue, codes, length, drop};
 ghost use Rattle.std.specs.List.{concat};
 ghost use Rattle.tff_lexer.specs.declared.spans.Token.{Token};
 ghost use Rattle.tff_lexer.specs.declared.spans.TokenKind.{TokenKind};
@@ -23,6 +23,12 @@ pub fn one_scan()
 pub fn token_texts()
     ensures { (bytes : List ℕ) (tokens : List Token) (stop : Option ℕ)
         → Scans bytes tokens stop → HaveForms bytes tokens }
+{}
+
+/// At the place at which a scan stops no token begins.
+pub fn stop_text()
+    ensures { (bytes : List ℕ) (tokens : List Token) (place : ℕ)
+        → Scans bytes tokens (Some place) → BeginsNoToken (drop place bytes) }
 {}
 
 /// What stands before a token is white-space bytes and comments (`blanks`), all that stand there: what is left begins with
