@@ -1,0 +1,15 @@
+pub mod Joining
+pub mod Digits
+pub mod Reaching
+pub mod Windows
+pub mod Lifting
+pub mod Negatives
+pub mod Lists
+pub mod Counts
+pub mod Choices
+pub mod Rooms
+pub mod Kinded
+pub mod Chains
+pub mod Regulars
+pub mod Levels
+pub mod Sure

@@ -1,0 +1,20 @@
+//! The text of certificates, and the pieces that texts are made of.
+#![tactic(auto)]
+
+mod bad_texts;
+mod kinds;
+mod lins;
+mod numbers;
+mod parts;
+mod signs;
+mod trees;
+mod words;
+
+pub use bad_texts::{Bad, Unread};
+pub use kinds::{NodeKind, RowKind, node_kind, row_kind};
+pub use lins::{blank_number, blank_signed, lin};
+pub use numbers::{count, number, word32};
+pub use parts::{blank_count, blank_lin, index, multiples, row, rows};
+pub use signs::signed;
+pub use trees::{blank_tree, tree};
+pub use words::{blank, exactly, one_of};
