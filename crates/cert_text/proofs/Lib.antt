@@ -13,3 +13,4 @@ pub mod Chains
 pub mod Regulars
 pub mod Levels
 pub mod Sure
+pub mod Wholes

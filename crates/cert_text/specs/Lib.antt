@@ -6,3 +6,4 @@ pub mod Sums
 pub mod Grammar
 pub mod Places
 pub mod Counting
+pub mod Parsing
