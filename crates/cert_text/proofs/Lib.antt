@@ -14,3 +14,4 @@ pub mod Regulars
 pub mod Levels
 pub mod Sure
 pub mod Wholes
+pub mod Ones

@@ -16,3 +16,9 @@ pub fn one_certificate()
     ensures { (a b : Cert) (text : List ℕ) → Spells a text → Spells b text → a ≡ b }
 {
 }
+
+/// Two spellings of one certificate are equal.
+pub fn one_spelling()
+    ensures { (a : Cert) (text other : List ℕ) → Spells a text → Spells a other → text ≡ other }
+{
+}

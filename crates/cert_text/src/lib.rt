@@ -15,7 +15,7 @@ mod words;
 pub use bad_texts::{Bad, Unread};
 pub use certs::{BadText, TextError, parse_cert};
 pub use kinds::{NodeKind, RowKind, node_kind, row_kind};
-pub use laws::{a_digit_follows, one_certificate};
+pub use laws::{a_digit_follows, one_certificate, one_spelling};
 pub use lins::{blank_number, blank_signed, lin};
 pub use numbers::{count, number, word32};
 pub use parts::{blank_count, blank_lin, index, multiples, row, rows};
