@@ -18,10 +18,10 @@ count_missing text h = fails_at_front Any text (has_one-number Any 0 tt) (λ b b
 
 pub count_first : (text : List ℕ) (d count : ℕ) (rest : List ℕ) → text ≡ (48 + d) ∷ rest → d < 10 → count ≡ d → CountSo text count rest
 count_first text d count rest e h same = record {
-    number = d;
-    is = omega (arith, same);
-    whole = e ∙ ap (λ t. t ++ rest) (sym (decimal_digit d h));
-  }
+  number = d;
+  is = omega (arith, same);
+  whole = e ∙ ap (λ t. t ++ rest) (sym (decimal_digit d h));
+}
 
 goes_on_any : (n : ℕ) → GoesOn (Number Any) (decimal n)
 goes_on_any n = record { value = n; text = decimal n; tail = []; spelled = record { is_in = tt; digits = refl }; begins = sym (append-nil (decimal n)) }

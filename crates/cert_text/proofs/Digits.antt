@@ -5,7 +5,6 @@ use Rattle.std.proofs.lemmas.Nat.{div-mul-add}
 use Rattle.std.proofs.lemmas.List.Folds.{list_all-append}
 use Rattle.std.proofs.lemmas.Bool.{ltb-true, and_parts, and_from}
 use Rattle.std.proofs.lemmas.Bool.Decides.{nat_tests}
-
 use Rattle.std.specs.List.{list_all}
 use Rattle.cert_text.specs.Decimals.{is_digit, decimal_by, decimal}
 
@@ -30,6 +29,7 @@ enough (suc k) (suc j) n h i a b = by (ltb n 10) refl (λ (p : 0 < k) (q : 0 < j
     positive : (m : ℕ) → 10 ≤ n → n < 10 ^ suc m → 0 < m
     positive zero l e = absurd (omega (arith, pow-suc 10 zero))
     positive (suc m) l e = omega arith
+
     by : (t : Bool) → ltb n 10 ≡ t → (0 < k → 0 < j → decimal_by k (n / 10) ≡ decimal_by j (n / 10)) → decimal_by (suc k) n ≡ decimal_by (suc j) n
     by true e again = let l = ltb-true n 10 e in small_digit k n l ∙ sym (small_digit j n l)
     by false e again =

@@ -64,17 +64,17 @@ not_longer (a ∷ f) c w h = not_longer f c w (tail_same h)
 module _ {A B : Type 0} (L : A → List ℕ → Type 0) (M : A → B → List ℕ → Type 0) where
   pub cat_reads : (bytes middle rest : List ℕ) (a : A) (b : B) → Reads L bytes a middle → Reads (M a) middle b rest → Reads (Cat L M) bytes (a, b) rest
   cat_reads bytes middle rest a b r s = record {
-      text = r.text ++ s.text;
-      spelled = record { first = r.text; second = s.text; first_spelled = r.spelled; second_spelled = s.spelled; joined = refl };
-      whole = r.whole ∙ ap (λ t. r.text ++ t) s.whole ∙ sym (append_assoc r.text s.text rest);
-      ends = s.ends;
-    }
+    text = r.text ++ s.text;
+    spelled = record { first = r.text; second = s.text; first_spelled = r.spelled; second_spelled = s.spelled; joined = refl };
+    whole = r.whole ∙ ap (λ t. r.text ++ t) s.whole ∙ sym (append_assoc r.text s.text rest);
+    ends = s.ends;
+  }
 
   pub one_front-cat : OneFront L → ((a : A) → OneFront (M a)) → ((a : A) → StartsClear (M a)) → OneFront (Cat L M)
   one_front-cat one two clear p q t u x y s r h d e =
       let whole = sym (append_assoc s.first s.second x) ∙ ap (λ z. z ++ x) (sym s.joined) ∙ h ∙ ap (λ z. z ++ y) r.joined ∙ append_assoc r.first r.second y in
       let first = one p.0 q.0 s.first r.first (s.second ++ x) (r.second ++ y) s.first_spelled r.first_spelled whole
-        (no_digit-append s.second x (clear p.0 p.1 s.second s.second_spelled) d) (no_digit-append r.second y (clear q.0 q.1 r.second r.second_spelled) e) in
+      (no_digit-append s.second x (clear p.0 p.1 s.second s.second_spelled) d) (no_digit-append r.second y (clear q.0 q.1 r.second r.second_spelled) e) in
       let second = two q.0 p.1 q.1 s.second r.second x y (subst (λ a. M a p.1 s.second) first.value s.second_spelled) r.second_spelled first.rest d e in
       record {
         value = ap (λ a. (a, p.1)) first.value ∙ ap (λ b. (q.0, b)) second.value;
@@ -85,11 +85,11 @@ module _ {A B : Type 0} (L : A → List ℕ → Type 0) (M : A → B → List �
   -- where the first fails
   pub cat_fails_first : (bytes : List ℕ) (left : ℕ) → ((a : A) (t : List ℕ) → L a t → HasOne (M a)) → ((a : A) → StartsClear (M a)) → Fails L bytes left → Fails (Cat L M) bytes left
   cat_fails_first bytes left some clear f = record {
-      front = f.front;
-      rest = f.rest;
-      whole = f.whole;
-      left_is = f.left_is;
-      goes_on =
+    front = f.front;
+    rest = f.rest;
+    whole = f.whole;
+    left_is = f.left_is;
+    goes_on =
         let g = f.goes_on in
         let m = some g.value g.text g.spelled in
         record {
@@ -99,8 +99,8 @@ module _ {A B : Type 0} (L : A → List ℕ → Type 0) (M : A → B → List �
           spelled = record { first = g.text; second = m.text; first_spelled = g.spelled; second_spelled = m.spelled; joined = refl };
           begins = ap (λ z. z ++ m.text) g.begins ∙ append_assoc f.front g.tail m.text;
         };
-      stops = stop f.rest f.whole f.stops;
-      none = λ p rest r.
+    stops = stop f.rest f.whole f.stops;
+    none = λ p rest r.
         let s = r.spelled in
         f.none p.0 (s.second ++ rest) (record {
           text = s.first;
@@ -108,14 +108,14 @@ module _ {A B : Type 0} (L : A → List ℕ → Type 0) (M : A → B → List �
           whole = r.whole ∙ ap (λ z. z ++ rest) s.joined ∙ append_assoc s.first s.second rest;
           ends = no_digit-append s.second rest (clear p.0 p.1 s.second s.second_spelled) r.ends;
         });
-    }
+  }
     where
       -- a text of both with the front and the byte: the first part goes on, or it was read
       stop : (rest : List ℕ) → bytes ≡ f.front ++ rest → StopsAt L f.front rest → StopsAt (Cat L M) f.front rest
       stop [] w k = tt
       stop (c ∷ cs) w k = λ g.
-        let s = g.spelled in
-        by g s (fronts s.first s.second (f.front ++ c ∷ []) g.tail (sym s.joined ∙ g.begins))
+          let s = g.spelled in
+          by g s (fronts s.first s.second (f.front ++ c ∷ []) g.tail (sym s.joined ∙ g.begins))
         where
           by : (g : GoesOn (Cat L M) (f.front ++ c ∷ [])) (s : Cat L M g.value g.text) → Fronts s.first s.second (f.front ++ c ∷ []) g.tail → ⊥
           by g s (beyond d more p q) = k (record { value = g.value.0; text = s.first; tail = d ∷ more; spelled = s.first_spelled; begins = p })
@@ -125,21 +125,21 @@ module _ {A B : Type 0} (L : A → List ℕ → Type 0) (M : A → B → List �
               inside : (more : List ℕ) → f.front ++ c ∷ [] ≡ s.first ++ more → NoDigit more → ⊥
               inside [] p d = k (record { value = g.value.0; text = s.first; tail = []; spelled = s.first_spelled; begins = sym (append-nil s.first) ∙ sym p ∙ sym (append-nil (f.front ++ c ∷ [])) })
               inside (m ∷ ms) p d = f.none g.value.0 ((m ∷ ms) ++ cs) (record {
-                  text = s.first;
-                  spelled = s.first_spelled;
-                  whole = w ∙ sym (append_assoc f.front (c ∷ []) cs) ∙ ap (λ z. z ++ cs) p ∙ append_assoc s.first (m ∷ ms) cs;
-                  ends = d;
-                })
+                text = s.first;
+                spelled = s.first_spelled;
+                whole = w ∙ sym (append_assoc f.front (c ∷ []) cs) ∙ ap (λ z. z ++ cs) p ∙ append_assoc s.first (m ∷ ms) cs;
+                ends = d;
+              })
 
   -- where the first was read and the second fails
   pub cat_fails_second : (bytes middle : List ℕ) (a : A) (left : ℕ) → OneFront L → ((a : A) → StartsClear (M a)) → Reads L bytes a middle → Fails (M a) middle left
       → Fails (Cat L M) bytes left
   cat_fails_second bytes middle a left one clear r f = record {
-      front = r.text ++ f.front;
-      rest = f.rest;
-      whole = r.whole ∙ ap (λ t. r.text ++ t) f.whole ∙ sym (append_assoc r.text f.front f.rest);
-      left_is = f.left_is;
-      goes_on =
+    front = r.text ++ f.front;
+    rest = f.rest;
+    whole = r.whole ∙ ap (λ t. r.text ++ t) f.whole ∙ sym (append_assoc r.text f.front f.rest);
+    left_is = f.left_is;
+    goes_on =
         let g = f.goes_on in
         record {
           value = (a, g.value);
@@ -148,37 +148,37 @@ module _ {A B : Type 0} (L : A → List ℕ → Type 0) (M : A → B → List �
           spelled = record { first = r.text; second = g.text; first_spelled = r.spelled; second_spelled = g.spelled; joined = refl };
           begins = ap (λ z. r.text ++ z) g.begins ∙ sym (append_assoc r.text f.front g.tail);
         };
-      stops = stop f.rest f.whole f.stops;
-      none = λ p rest s.
+    stops = stop f.rest f.whole f.stops;
+    none = λ p rest s.
         let c = s.spelled in
         let same = one p.0 a c.first r.text (c.second ++ rest) middle c.first_spelled r.spelled
-          (sym (append_assoc c.first c.second rest) ∙ ap (λ z. z ++ rest) (sym c.joined) ∙ sym s.whole ∙ r.whole)
-          (no_digit-append c.second rest (clear p.0 p.1 c.second c.second_spelled) s.ends) r.ends in
+        (sym (append_assoc c.first c.second rest) ∙ ap (λ z. z ++ rest) (sym c.joined) ∙ sym s.whole ∙ r.whole)
+        (no_digit-append c.second rest (clear p.0 p.1 c.second c.second_spelled) s.ends) r.ends in
         f.none p.1 rest (record {
           text = c.second;
           spelled = subst (λ v. M v p.1 c.second) same.value c.second_spelled;
           whole = sym same.rest;
           ends = s.ends;
         });
-    }
+  }
     where
       stop : (rest : List ℕ) → middle ≡ f.front ++ rest → StopsAt (M a) f.front rest → StopsAt (Cat L M) (r.text ++ f.front) rest
       stop [] w k = tt
       stop (b ∷ bs) w k = λ g.
-        let s = g.spelled in
-        let front = f.front ++ b ∷ [] in
-        let here : middle ≡ front ++ bs = w ∙ sym (append_assoc f.front (b ∷ []) bs) in
-        let behind : NoDigit (front ++ g.tail) = no_digit_on f.front b bs g.tail (subst NoDigit w r.ends) in
-        let same = one g.value.0 a s.first r.text s.second (front ++ g.tail) s.first_spelled r.spelled
+          let s = g.spelled in
+          let front = f.front ++ b ∷ [] in
+          let here : middle ≡ front ++ bs = w ∙ sym (append_assoc f.front (b ∷ []) bs) in
+          let behind : NoDigit (front ++ g.tail) = no_digit_on f.front b bs g.tail (subst NoDigit w r.ends) in
+          let same = one g.value.0 a s.first r.text s.second (front ++ g.tail) s.first_spelled r.spelled
           (sym s.joined ∙ g.begins ∙ ap (λ z. z ++ g.tail) (append_assoc r.text f.front (b ∷ [])) ∙ append_assoc r.text front g.tail)
           (clear g.value.0 g.value.1 s.second s.second_spelled) behind in
-        k (record {
-          value = g.value.1;
-          text = s.second;
-          tail = g.tail;
-          spelled = subst (λ v. M v g.value.1 s.second) same.value s.second_spelled;
-          begins = same.rest;
-        })
+          k (record {
+            value = g.value.1;
+            text = s.second;
+            tail = g.tail;
+            spelled = subst (λ v. M v g.value.1 s.second) same.value s.second_spelled;
+            begins = same.rest;
+          })
         where
           no_digit_on : (f : List ℕ) (b : ℕ) (bs tail : List ℕ) → NoDigit (f ++ b ∷ bs) → NoDigit ((f ++ b ∷ []) ++ tail)
           no_digit_on [] b bs tail h = h
@@ -199,23 +199,23 @@ module _ {A : Type 0} (L : A → List ℕ → Type 0) where
 
   pub blank_reads : (bytes rest : List ℕ) (a : A) → Reads L bytes a rest → Reads (Blank L) (32 ∷ bytes) a rest
   blank_reads bytes rest a r = record {
-      text = 32 ∷ r.text;
-      spelled = record { behind = r.text; spelled = r.spelled; joined = refl };
-      whole = ap (λ z. 32 ∷ z) r.whole;
-      ends = r.ends;
-    }
+    text = 32 ∷ r.text;
+    spelled = record { behind = r.text; spelled = r.spelled; joined = refl };
+    whole = ap (λ z. 32 ∷ z) r.whole;
+    ends = r.ends;
+  }
 
   -- the bytes begin with no blank
   pub blank_missing : (bytes : List ℕ) → HasOne L → ((more : List ℕ) → bytes ≡ 32 ∷ more → ⊥) → Fails (Blank L) bytes (length bytes)
   blank_missing bytes h missing = record {
-      front = [];
-      rest = bytes;
-      whole = refl;
-      left_is = refl;
-      goes_on = record { value = h.value; text = 32 ∷ h.text; tail = 32 ∷ h.text; spelled = record { behind = h.text; spelled = h.spelled; joined = refl }; begins = refl };
-      stops = stop bytes missing;
-      none = λ a rest r. missing (r.spelled.behind ++ rest) (r.whole ∙ ap (λ z. z ++ rest) r.spelled.joined);
-    }
+    front = [];
+    rest = bytes;
+    whole = refl;
+    left_is = refl;
+    goes_on = record { value = h.value; text = 32 ∷ h.text; tail = 32 ∷ h.text; spelled = record { behind = h.text; spelled = h.spelled; joined = refl }; begins = refl };
+    stops = stop bytes missing;
+    none = λ a rest r. missing (r.spelled.behind ++ rest) (r.whole ∙ ap (λ z. z ++ rest) r.spelled.joined);
+  }
     where
       stop : (bytes : List ℕ) → ((more : List ℕ) → bytes ≡ 32 ∷ more → ⊥) → StopsAt (Blank L) [] bytes
       stop [] m = tt
@@ -223,31 +223,31 @@ module _ {A : Type 0} (L : A → List ℕ → Type 0) where
 
   pub blank_fails : (bytes : List ℕ) (left : ℕ) → Fails L bytes left → Fails (Blank L) (32 ∷ bytes) left
   blank_fails bytes left f = record {
-      front = 32 ∷ f.front;
-      rest = f.rest;
-      whole = ap (λ z. 32 ∷ z) f.whole;
-      left_is = f.left_is;
-      goes_on =
+    front = 32 ∷ f.front;
+    rest = f.rest;
+    whole = ap (λ z. 32 ∷ z) f.whole;
+    left_is = f.left_is;
+    goes_on =
         let g = f.goes_on in
         record { value = g.value; text = 32 ∷ g.text; tail = g.tail; spelled = record { behind = g.text; spelled = g.spelled; joined = refl }; begins = ap (λ z. 32 ∷ z) g.begins };
-      stops = stop f.rest f.stops;
-      none = λ a rest r. f.none a rest (record {
-          text = r.spelled.behind;
-          spelled = r.spelled.spelled;
-          whole = tail_same (r.whole ∙ ap (λ z. z ++ rest) r.spelled.joined);
-          ends = r.ends;
-        });
-    }
+    stops = stop f.rest f.stops;
+    none = λ a rest r. f.none a rest (record {
+      text = r.spelled.behind;
+      spelled = r.spelled.spelled;
+      whole = tail_same (r.whole ∙ ap (λ z. z ++ rest) r.spelled.joined);
+      ends = r.ends;
+    });
+  }
     where
       stop : (rest : List ℕ) → StopsAt L f.front rest → StopsAt (Blank L) (32 ∷ f.front) rest
       stop [] k = tt
       stop (b ∷ bs) k = λ g. k (record {
-          value = g.value;
-          text = g.spelled.behind;
-          tail = g.tail;
-          spelled = g.spelled.spelled;
-          begins = tail_same (sym g.spelled.joined ∙ g.begins);
-        })
+        value = g.value;
+        text = g.spelled.behind;
+        tail = g.tail;
+        spelled = g.spelled.spelled;
+        begins = tail_same (sym g.spelled.joined ∙ g.begins);
+      })
 
 -- ---- the same texts under other values
 -- each text of the one language is a text of the other, whichever the value
@@ -256,25 +256,25 @@ Covers {A} {B} L M = (a : A) (t : List ℕ) → L a t → (b : B) × M b t
 
 pub same_fails : {A B : Type 0} (L : A → List ℕ → Type 0) (M : B → List ℕ → Type 0) → Covers L M → Covers M L → (bytes : List ℕ) (left : ℕ) → Fails L bytes left → Fails M bytes left
 same_fails L M forth back bytes left f = record {
-    front = f.front;
-    rest = f.rest;
-    whole = f.whole;
-    left_is = f.left_is;
-    goes_on =
+  front = f.front;
+  rest = f.rest;
+  whole = f.whole;
+  left_is = f.left_is;
+  goes_on =
       let g = f.goes_on in
       let m = forth g.value g.text g.spelled in
       record { value = m.0; text = g.text; tail = g.tail; spelled = m.1; begins = g.begins };
-    stops = stop f.rest f.stops;
-    none = λ b rest r.
+  stops = stop f.rest f.stops;
+  none = λ b rest r.
       let m = back b r.text r.spelled in
       f.none m.0 rest (record { text = r.text; spelled = m.1; whole = r.whole; ends = r.ends });
-  }
+}
   where
     stop : (rest : List ℕ) → StopsAt L f.front rest → StopsAt M f.front rest
     stop [] k = tt
     stop (b ∷ bs) k = λ g.
-      let m = back g.value g.text g.spelled in
-      k (record { value = m.0; text = g.text; tail = g.tail; spelled = m.1; begins = g.begins })
+        let m = back g.value g.text g.spelled in
+        k (record { value = m.0; text = g.text; tail = g.tail; spelled = m.1; begins = g.begins })
 
 pub same_reads : {A B : Type 0} (L : A → List ℕ → Type 0) (M : B → List ℕ → Type 0) (a : A) (b : B) → ((t : List ℕ) → L a t → M b t) → (bytes rest : List ℕ)
     → Reads L bytes a rest → Reads M bytes b rest

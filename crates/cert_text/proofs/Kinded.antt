@@ -94,10 +94,10 @@ clear-node_word Clash = refl
 
 pub regular-node_word : Regular NodeWord
 regular-node_word = record {
-    one = one_front-words node_word guess_node known_node;
-    clear = λ k t s. subst NoDigit (sym s) (clear-node_word k);
-    some = record { value = Clash; text = codes "clash"; spelled = refl };
-  }
+  one = one_front-words node_word guess_node known_node;
+  clear = λ k t s. subst NoDigit (sym s) (clear-node_word k);
+  some = record { value = Clash; text = codes "clash"; spelled = refl };
+}
 
 abbrev guess_row : List ℕ → RowKind
 guess_row (a ∷ more) = if a == 105 then Inst else Low
@@ -113,14 +113,14 @@ clear-row_word Low = refl
 
 pub regular-row_word : Regular RowWord
 regular-row_word = record {
-    one = one_front-words row_word guess_row known_row;
-    clear = λ k t s. subst NoDigit (sym s) (clear-row_word k);
-    some = record { value = Low; text = codes "low"; spelled = refl };
-  }
+  one = one_front-words row_word guess_row known_row;
+  clear = λ k t s. subst NoDigit (sym s) (clear-row_word k);
+  some = record { value = Low; text = codes "low"; spelled = refl };
+}
 
 pub regular-exactly : (word : List ℕ) → NoDigit word → Regular (Exactly word)
 regular-exactly word clear = record {
-    one = λ a b t u x y s r h d e. record { value = refl; text = s ∙ sym r; rest = drop_front word x y (ap (λ z. z ++ x) (sym s) ∙ h ∙ ap (λ z. z ++ y) r) };
-    clear = λ a t s. subst NoDigit (sym s) clear;
-    some = record { value = tt; text = word; spelled = refl };
-  }
+  one = λ a b t u x y s r h d e. record { value = refl; text = s ∙ sym r; rest = drop_front word x y (ap (λ z. z ++ x) (sym s) ∙ h ∙ ap (λ z. z ++ y) r) };
+  clear = λ a t s. subst NoDigit (sym s) clear;
+  some = record { value = tt; text = word; spelled = refl };
+}

@@ -44,33 +44,35 @@ raised F G l (suc j) k a t s = l.more (above j k) a t (raised F G l j k a t s)
 limit-cat : {A B : Type 0} (F : ℕ → A → List ℕ → Type 0) (G : A → List ℕ → Type 0) (H : ℕ → A → B → List ℕ → Type 0) (K : A → B → List ℕ → Type 0)
     → Limit F G → ((a : A) → Limit (λ k. H k a) (K a)) → Limit (λ k. Cat (F k) (H k)) (Cat G K)
 limit-cat F G H K l m = record {
-    more = λ k p t s. record { first = s.first; second = s.second; first_spelled = l.more k p.0 s.first s.first_spelled; second_spelled = (m p.0).more k p.1 s.second s.second_spelled; joined = s.joined };
-    into = λ k p t s. record { first = s.first; second = s.second; first_spelled = l.into k p.0 s.first s.first_spelled; second_spelled = (m p.0).into k p.1 s.second s.second_spelled; joined = s.joined };
-    out = λ p t s.
+  more = λ k p t s. record { first = s.first; second = s.second; first_spelled = l.more k p.0 s.first s.first_spelled; second_spelled = (m p.0).more k p.1 s.second s.second_spelled; joined = s.joined };
+  into = λ k p t s. record { first = s.first; second = s.second; first_spelled = l.into k p.0 s.first s.first_spelled; second_spelled = (m p.0).into k p.1 s.second s.second_spelled; joined = s.joined };
+  out = λ p t s.
       let a = l.out p.0 s.first s.first_spelled in
-      let b = (m p.0).out p.1 s.second s.second_spelled in
-      (above b.0 a.0, record {
+      let b = (m p.0).out p.1 s.second s.second_spelled in (
+        above b.0 a.0,
+        record {
           first = s.first;
           second = s.second;
           first_spelled = raised F G l b.0 a.0 p.0 s.first a.1;
           second_spelled = subst (λ k. H k p.0 p.1 s.second) (above_swap a.0 b.0) (raised (λ k. H k p.0) (K p.0) (m p.0) a.0 b.0 p.1 s.second b.1);
           joined = s.joined;
-        });
-  }
+        },
+      );
+}
 
 limit-blank : {A : Type 0} (F : ℕ → A → List ℕ → Type 0) (G : A → List ℕ → Type 0) → Limit F G → Limit (λ k. Blank (F k)) (Blank G)
 limit-blank F G l = record {
-    more = λ k a t s. record { behind = s.behind; spelled = l.more k a s.behind s.spelled; joined = s.joined };
-    into = λ k a t s. record { behind = s.behind; spelled = l.into k a s.behind s.spelled; joined = s.joined };
-    out = λ a t s. let o = l.out a s.behind s.spelled in (o.0, record { behind = s.behind; spelled = o.1; joined = s.joined });
-  }
+  more = λ k a t s. record { behind = s.behind; spelled = l.more k a s.behind s.spelled; joined = s.joined };
+  into = λ k a t s. record { behind = s.behind; spelled = l.into k a s.behind s.spelled; joined = s.joined };
+  out = λ a t s. let o = l.out a s.behind s.spelled in (o.0, record { behind = s.behind; spelled = o.1; joined = s.joined });
+}
 
 limit-image : {A B : Type 0} (f : A → B) (F : ℕ → A → List ℕ → Type 0) (G : A → List ℕ → Type 0) → Limit F G → Limit (λ k. Image f (F k)) (Image f G)
 limit-image f F G l = record {
-    more = λ k b t s. record { from = s.from; is = s.is; spelled = l.more k s.from t s.spelled };
-    into = λ k b t s. record { from = s.from; is = s.is; spelled = l.into k s.from t s.spelled };
-    out = λ b t s. let o = l.out s.from t s.spelled in (o.0, record { from = s.from; is = s.is; spelled = o.1 });
-  }
+  more = λ k b t s. record { from = s.from; is = s.is; spelled = l.more k s.from t s.spelled };
+  into = λ k b t s. record { from = s.from; is = s.is; spelled = l.into k s.from t s.spelled };
+  out = λ b t s. let o = l.out s.from t s.spelled in (o.0, record { from = s.from; is = s.is; spelled = o.1 });
+}
 
 -- so many
 limit-times : {A : Type 0} (F : ℕ → A → List ℕ → Type 0) (G : A → List ℕ → Type 0) → Limit F G → (n : ℕ) → Limit (λ k. Times (F k) n) (Times G n)
@@ -81,28 +83,33 @@ limit-times {A} F G l n = record { more = more n; into = into n; out = out n }
     more zero k (x ∷ xs) t s = absurd s
     more (suc n) k [] t s = absurd s
     more (suc n) k (x ∷ xs) t s = record { first = s.first; second = s.second; first_spelled = l.more k x s.first s.first_spelled; second_spelled = more n k xs s.second s.second_spelled; joined = s.joined }
+
     into : (n k : ℕ) (a : List A) (t : List ℕ) → Times (F k) n a t → Times G n a t
     into zero k [] t s = s
     into zero k (x ∷ xs) t s = absurd s
     into (suc n) k [] t s = absurd s
     into (suc n) k (x ∷ xs) t s = record { first = s.first; second = s.second; first_spelled = l.into k x s.first s.first_spelled; second_spelled = into n k xs s.second s.second_spelled; joined = s.joined }
+
     raise : (n j k : ℕ) (a : List A) (t : List ℕ) → Times (F k) n a t → Times (F (above j k)) n a t
     raise n zero k a t s = s
     raise n (suc j) k a t s = more n (above j k) a t (raise n j k a t s)
+
     out : (n : ℕ) (a : List A) (t : List ℕ) → Times G n a t → (k : ℕ) × Times (F k) n a t
     out zero [] t s = (0, s)
     out zero (x ∷ xs) t s = absurd s
     out (suc n) [] t s = absurd s
     out (suc n) (x ∷ xs) t s =
         let a = l.out x s.first s.first_spelled in
-        let b = out n xs s.second s.second_spelled in
-        (above b.0 a.0, record {
+        let b = out n xs s.second s.second_spelled in (
+          above b.0 a.0,
+          record {
             first = s.first;
             second = s.second;
             first_spelled = raised F G l b.0 a.0 x s.first a.1;
             second_spelled = subst (λ k. Times (F k) n xs s.second) (above_swap a.0 b.0) (raise n a.0 b.0 xs s.second b.1);
             joined = s.joined;
-          })
+          },
+        )
 
 limit-counted : {A : Type 0} (F : ℕ → A → List ℕ → Type 0) (G : A → List ℕ → Type 0) → Limit F G → Limit (λ k. Counted (F k)) (Counted G)
 limit-counted {A} F G l =
@@ -146,6 +153,7 @@ limit-two L M grows = record { more = more; into = into; out = λ a t s. (1, s) 
     more : (k : ℕ) (a : Tree) (t : List ℕ) → two L M k a t → two L M (suc k) a t
     more zero a t s = grows a t s
     more (suc k) a t s = s
+
     into : (k : ℕ) (a : Tree) (t : List ℕ) → two L M k a t → M a t
     into zero a t s = grows a t s
     into (suc k) a t s = s

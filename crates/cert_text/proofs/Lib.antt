@@ -15,3 +15,4 @@ pub mod Levels
 pub mod Sure
 pub mod Wholes
 pub mod Ones
+pub mod Adding

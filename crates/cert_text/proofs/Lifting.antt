@@ -21,29 +21,29 @@ lift-then {g = g} l m = record { fails = λ left h. l.fails left (m.fails left h
 pub lift-cat : {A B : Type 0} (L : A → List ℕ → Type 0) (M : A → B → List ℕ → Type 0) (bytes middle : List ℕ) (a : A) → OneFront L → ((a : A) → StartsClear (M a)) → Reads L bytes a middle
     → Lift (Cat L M) bytes (M a) middle (λ b. (a, b))
 lift-cat L M bytes middle a one clear r = record {
-    fails = λ left h. cat_fails_second L M bytes middle a left one clear r h;
-    reads = λ b rest s. cat_reads L M bytes middle rest a b r s;
-  }
+  fails = λ left h. cat_fails_second L M bytes middle a left one clear r h;
+  reads = λ b rest s. cat_reads L M bytes middle rest a b r s;
+}
 
 pub lift-blank : {A : Type 0} (L : A → List ℕ → Type 0) (bytes behind : List ℕ) → bytes ≡ 32 ∷ behind → Lift (Blank L) bytes L behind (λ a. a)
 lift-blank L bytes behind e = record {
-    fails = λ left h. subst (λ z. Fails (Blank L) z left) (sym e) (blank_fails L behind left h);
-    reads = λ b rest s. subst (λ z. Reads (Blank L) z b rest) (sym e) (blank_reads L behind rest b s);
-  }
+  fails = λ left h. subst (λ z. Fails (Blank L) z left) (sym e) (blank_fails L behind left h);
+  reads = λ b rest s. subst (λ z. Reads (Blank L) z b rest) (sym e) (blank_reads L behind rest b s);
+}
 
 pub lift-image : {A B : Type 0} (f : A → B) (L : A → List ℕ → Type 0) (bytes : List ℕ) → Lift (Image f L) bytes L bytes f
 lift-image f L bytes = record {
-    fails = λ left h. record {
-        front = h.front;
-        rest = h.rest;
-        whole = h.whole;
-        left_is = h.left_is;
-        goes_on = let g = h.goes_on in record { value = f g.value; text = g.text; tail = g.tail; spelled = record { from = g.value; is = refl; spelled = g.spelled }; begins = g.begins };
-        stops = stop h.front h.rest h.stops;
-        none = λ b rest r. h.none r.spelled.from rest (record { text = r.text; spelled = r.spelled.spelled; whole = r.whole; ends = r.ends });
-      };
-    reads = λ b rest r. record { text = r.text; spelled = record { from = b; is = refl; spelled = r.spelled }; whole = r.whole; ends = r.ends };
-  }
+  fails = λ left h. record {
+    front = h.front;
+    rest = h.rest;
+    whole = h.whole;
+    left_is = h.left_is;
+    goes_on = let g = h.goes_on in record { value = f g.value; text = g.text; tail = g.tail; spelled = record { from = g.value; is = refl; spelled = g.spelled }; begins = g.begins };
+    stops = stop h.front h.rest h.stops;
+    none = λ b rest r. h.none r.spelled.from rest (record { text = r.text; spelled = r.spelled.spelled; whole = r.whole; ends = r.ends });
+  };
+  reads = λ b rest r. record { text = r.text; spelled = record { from = b; is = refl; spelled = r.spelled }; whole = r.whole; ends = r.ends };
+}
   where
     stop : (front rest : List ℕ) → StopsAt L front rest → StopsAt (Image f L) front rest
     stop front [] k = tt
@@ -60,13 +60,13 @@ regular-blank L one some = record { one = one_front-blank L one; clear = clear-b
 
 pub regular-cat : {A B : Type 0} (L : A → List ℕ → Type 0) (M : A → B → List ℕ → Type 0) → Regular L → ((a : A) → Regular (M a)) → Regular (Cat L M)
 regular-cat L M l m = record {
-    one = one_front-cat L M l.one (λ a. (m a).one) (λ a. (m a).clear);
-    clear = λ p t s. subst NoDigit (sym s.joined) (no_digit-append s.first s.second (l.clear p.0 s.first s.first_spelled) ((m p.0).clear p.1 s.second s.second_spelled));
-    some =
+  one = one_front-cat L M l.one (λ a. (m a).one) (λ a. (m a).clear);
+  clear = λ p t s. subst NoDigit (sym s.joined) (no_digit-append s.first s.second (l.clear p.0 s.first s.first_spelled) ((m p.0).clear p.1 s.second s.second_spelled));
+  some =
       let a = l.some in
       let b = (m a.value).some in
       record { value = (a.value, b.value); text = a.text ++ b.text; spelled = record { first = a.text; second = b.text; first_spelled = a.spelled; second_spelled = b.spelled; joined = refl } };
-  }
+}
 
 pub one_front-image : {A B : Type 0} (f : A → B) (L : A → List ℕ → Type 0) → OneFront L → OneFront (Image f L)
 one_front-image f L one a b t u x y s r h d e =

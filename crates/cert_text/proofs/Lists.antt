@@ -41,10 +41,10 @@ module _ {A : Type 0} (L : A → List ℕ → Type 0) where
       let c = regular-cat L (λ y. Times L n) l (λ y. regular-times l n) in
       record {
         one = λ a b t u x y s r h d e.
-          let p = split-times n a t s in
-          let q = split-times n b u r in
-          let same = c.one (p.first, p.more) (q.first, q.more) t u x y p.spelled q.spelled h d e in
-          record { value = p.is ∙ ap (λ (z : A × List A). z.0 ∷ z.1) same.value ∙ sym q.is; text = same.text; rest = same.rest };
+            let p = split-times n a t s in
+            let q = split-times n b u r in
+            let same = c.one (p.first, p.more) (q.first, q.more) t u x y p.spelled q.spelled h d e in
+            record { value = p.is ∙ ap (λ (z : A × List A). z.0 ∷ z.1) same.value ∙ sym q.is; text = same.text; rest = same.rest };
         clear = λ a t s. let p = split-times n a t s in c.clear (p.first, p.more) t p.spelled;
         some = let h = c.some in record { value = h.value.0 ∷ h.value.1; text = h.text; spelled = h.spelled };
       }
@@ -58,9 +58,9 @@ module _ {A : Type 0} (L : A → List ℕ → Type 0) where
   -- ---- from a list of one more to what follows its first
   pub times-step : (n : ℕ) (bytes : List ℕ) → Lift (Times L (suc n)) bytes (Step n) bytes (λ p. p.0 ∷ p.1)
   times-step n bytes = record {
-      fails = λ left f. same_fails (Step n) (Times L (suc n)) (λ p t s. (p.0 ∷ p.1, s)) (λ xs t s. let p = split-times n xs t s in ((p.first, p.more), p.spelled)) bytes left f;
-      reads = λ p rest r. same_reads (Step n) (Times L (suc n)) p (p.0 ∷ p.1) (λ t s. s) bytes rest r;
-    }
+    fails = λ left f. same_fails (Step n) (Times L (suc n)) (λ p t s. (p.0 ∷ p.1, s)) (λ xs t s. let p = split-times n xs t s in ((p.first, p.more), p.spelled)) bytes left f;
+    reads = λ p rest r. same_reads (Step n) (Times L (suc n)) p (p.0 ∷ p.1) (λ t s. s) bytes rest r;
+  }
 
   pub times-first : Regular L → (n : ℕ) (bytes middle : List ℕ) (a : A) → Reads L bytes a middle → Lift (Times L (suc n)) bytes (Times L n) middle (λ more. a ∷ more)
   times-first l n bytes middle a r = lift-then (times-step n bytes) (first_reads L (λ y. Times L n) bytes middle a l.one (λ y. regular-times l n) r)
@@ -109,9 +109,9 @@ module _ {A : Type 0} (L : A → List ℕ → Type 0) where
           record {
             left = left;
             lift = record {
-                fails = whole.fails;
-                reads = λ b end h. subst (λ v. Reads (Times L n) bytes v end) (sym (append_assoc so_far (a ∷ []) b)) (whole.reads b end h);
-              };
+              fails = whole.fails;
+              reads = λ b end h. subst (λ v. Reads (Times L n) bytes v end) (sym (append_assoc so_far (a ∷ []) b)) (whole.reads b end h);
+            };
             count = omega (arith, count, length-append so_far (a ∷ []));
             ends = r.ends;
           }
@@ -140,22 +140,22 @@ module _ {A : Type 0} (L : A → List ℕ → Type 0) where
 
   pub some_none : Regular L → (bytes : List ℕ) (count : ℕ) (rest : List ℕ) → BlankCount bytes count rest → SomeSo bytes count [] rest
   some_none l bytes count rest r = record {
-      number = r.number;
-      is = r.is;
-      middle = rest;
-      lift = counted-count l r.number bytes rest r.reads;
-      so = read_none r.number rest r.reads.ends;
-    }
+    number = r.number;
+    is = r.is;
+    middle = rest;
+    lift = counted-count l r.number bytes rest r.reads;
+    so = read_none r.number rest r.reads.ends;
+  }
 
   pub some_more : Regular L → (bytes : List ℕ) (count : ℕ) (so_far : List A) (rest last : List ℕ) (a : A) → length so_far < count → SomeSo bytes count so_far rest → Reads L rest a last
       → SomeSo bytes count (so_far ++ a ∷ []) last
   some_more l bytes count so_far rest last a less s r = record {
-      number = s.number;
-      is = s.is;
-      middle = s.middle;
-      lift = s.lift;
-      so = read_more l s.number s.middle so_far rest last a (omega (arith, s.is)) s.so r;
-    }
+    number = s.number;
+    is = s.is;
+    middle = s.middle;
+    lift = s.lift;
+    so = read_more l s.number s.middle so_far rest last a (omega (arith, s.is)) s.so r;
+  }
 
   pub some_fails : Regular L → (bytes : List ℕ) (count : ℕ) (so_far : List A) (rest : List ℕ) (at : ℕ) → length so_far < count → SomeSo bytes count so_far rest → Fails L rest at
       → Fails (Counted L) bytes at

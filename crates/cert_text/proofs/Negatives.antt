@@ -51,39 +51,39 @@ module _ (least : ℕ) where
 
   pub minus_fails : (bytes digits : List ℕ) (left : ℕ) → bytes ≡ 45 ∷ digits → Fails Minus digits left → Fails Whole bytes left
   minus_fails bytes digits left e f = record {
-      front = 45 ∷ f.front;
-      rest = f.rest;
-      whole = e ∙ ap (λ t. 45 ∷ t) f.whole;
-      left_is = f.left_is;
-      goes_on =
+    front = 45 ∷ f.front;
+    rest = f.rest;
+    whole = e ∙ ap (λ t. 45 ∷ t) f.whole;
+    left_is = f.left_is;
+    goes_on =
         let g = f.goes_on in
         let b = below g.value g.text g.spelled in
         record { value = b.value; text = 45 ∷ g.text; tail = g.tail; spelled = b.spelled; begins = ap (λ t. 45 ∷ t) g.begins };
-      stops = stop f.rest f.stops;
-      none = λ z rest r.
+    stops = stop f.rest f.stops;
+    none = λ z rest r.
         let b = behind z r.text rest digits r.spelled (sym r.whole ∙ e) in
         f.none b.number rest (record {
-            text = b.digits;
-            spelled = b.spelled;
-            whole = tail_same (sym e ∙ r.whole ∙ ap (λ t. t ++ rest) b.is);
-            ends = r.ends;
-          });
-    }
+          text = b.digits;
+          spelled = b.spelled;
+          whole = tail_same (sym e ∙ r.whole ∙ ap (λ t. t ++ rest) b.is);
+          ends = r.ends;
+        });
+  }
     where
       stop : (rest : List ℕ) → StopsAt Minus f.front rest → StopsAt Whole (45 ∷ f.front) rest
       stop [] k = tt
       stop (c ∷ cs) k = λ g.
-        let b = behind g.value g.text [] ((f.front ++ c ∷ []) ++ g.tail) g.spelled (append-nil g.text ∙ g.begins) in
-        k (record { value = b.number; text = b.digits; tail = g.tail; spelled = b.spelled; begins = tail_same (sym b.is ∙ g.begins) })
+          let b = behind g.value g.text [] ((f.front ++ c ∷ []) ++ g.tail) g.spelled (append-nil g.text ∙ g.begins) in
+          k (record { value = b.number; text = b.digits; tail = g.tail; spelled = b.spelled; begins = tail_same (sym b.is ∙ g.begins) })
 
   pub minus_reads : (bytes digits : List ℕ) (n : ℕ) (rest : List ℕ) → bytes ≡ 45 ∷ digits → Reads Minus digits n rest → Reads Whole bytes (neg_ℤ (pos n)) rest
   minus_reads bytes digits zero rest e r = absurd (omega (arith, r.spelled.is_in.from_low))
   minus_reads bytes digits (suc n) rest e r = record {
-      text = 45 ∷ r.text;
-      spelled = record { is_in = r.spelled.is_in; digits = ap (λ t. 45 ∷ t) r.spelled.digits };
-      whole = e ∙ ap (λ t. 45 ∷ t) r.whole;
-      ends = r.ends;
-    }
+    text = 45 ∷ r.text;
+    spelled = record { is_in = r.spelled.is_in; digits = ap (λ t. 45 ∷ t) r.spelled.digits };
+    whole = e ∙ ap (λ t. 45 ∷ t) r.whole;
+    ends = r.ends;
+  }
 
   -- ---- without a minus
   record Above (text : List ℕ) : Type 0 where
@@ -101,22 +101,22 @@ module _ (least : ℕ) where
 
   pub plain_fails : (bytes : List ℕ) (left : ℕ) → ((more : List ℕ) → bytes ≡ 45 ∷ more → ⊥) → Fails Plain bytes left → Fails Whole bytes left
   plain_fails bytes left missing f = record {
-      front = f.front;
-      rest = f.rest;
-      whole = f.whole;
-      left_is = f.left_is;
-      goes_on = let g = f.goes_on in record { value = pos g.value; text = g.text; tail = g.tail; spelled = record { is_in = g.spelled.is_in; digits = g.spelled.digits }; begins = g.begins };
-      stops = stop f.rest f.whole f.stops;
-      none = λ z rest r.
+    front = f.front;
+    rest = f.rest;
+    whole = f.whole;
+    left_is = f.left_is;
+    goes_on = let g = f.goes_on in record { value = pos g.value; text = g.text; tail = g.tail; spelled = record { is_in = g.spelled.is_in; digits = g.spelled.digits }; begins = g.begins };
+    stops = stop f.rest f.whole f.stops;
+    none = λ z rest r.
         let a = above z r.text r.spelled (λ more e. missing (more ++ rest) (r.whole ∙ ap (λ t. t ++ rest) e)) in
         f.none a.number rest (record { text = r.text; spelled = a.spelled; whole = r.whole; ends = r.ends });
-    }
+  }
     where
       stop : (rest : List ℕ) → bytes ≡ f.front ++ rest → StopsAt Plain f.front rest → StopsAt Whole f.front rest
       stop [] w k = tt
       stop (c ∷ cs) w k = λ g.
-        let a = above g.value g.text g.spelled (λ more e. missing (tail_of (f.front ++ c ∷ cs)) (w ∙ front_minus f.front more g.tail cs c (sym g.begins ∙ e))) in
-        k (record { value = a.number; text = g.text; tail = g.tail; spelled = a.spelled; begins = g.begins })
+          let a = above g.value g.text g.spelled (λ more e. missing (tail_of (f.front ++ c ∷ cs)) (w ∙ front_minus f.front more g.tail cs c (sym g.begins ∙ e))) in
+          k (record { value = a.number; text = g.text; tail = g.tail; spelled = a.spelled; begins = g.begins })
 
   pub plain_reads : (bytes : List ℕ) (n : ℕ) (rest : List ℕ) → Reads Plain bytes n rest → Reads Whole bytes (pos n) rest
   plain_reads bytes n rest r = record { text = r.text; spelled = record { is_in = r.spelled.is_in; digits = r.spelled.digits }; whole = r.whole; ends = r.ends }

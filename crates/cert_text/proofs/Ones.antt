@@ -86,7 +86,7 @@ text-terms zero low (x ∷ xs) t s = absurd s
 text-terms (suc n) low [] t s = absurd s
 text-terms (suc n) low (x ∷ xs) t s =
     let first : s.first ≡ multiple_text x = text-cat (Blank (Number (Within low (2 ^ 32 - 1)))) (λ y. Blank (Signed (Signed128 1))) index_text (λ y. whole_text) (text-index (Within low (2 ^ 32 - 1)))
-      (λ y. text-whole (Signed128 1)) x s.first s.first_spelled in
+    (λ y. text-whole (Signed128 1)) x s.first s.first_spelled in
     s.joined ∙ ap (λ z. z ++ s.second) first ∙ ap (λ z. multiple_text x ++ z) (text-terms n (suc (x.0)) xs s.second s.second_spelled)
 
 length-terms : (n low : ℕ) (ts : List (ℕ × ℤ)) (t : List ℕ) → Terms n low ts t → length ts ≡ n
@@ -105,7 +105,7 @@ text-lin a t s =
     let ts = s.from.1.0 in
     let count : n ≡ length ts = sym (length-terms n 0 ts c.second_spelled.first c.second_spelled.first_spelled) in
     text-cat (Number Any) (λ n. Cat (Terms n 0) (λ terms. Blank (Signed (Signed128 0)))) decimal (λ n p. each_text multiple_text p.0 ++ whole_text p.1) (text-number Any)
-      (λ n. text-cat (Terms n 0) (λ terms. Blank (Signed (Signed128 0))) (each_text multiple_text) (λ terms. whole_text) (text-terms n 0) (λ terms. text-whole (Signed128 0))) s.from t c
+    (λ n. text-cat (Terms n 0) (λ terms. Blank (Signed (Signed128 0))) (each_text multiple_text) (λ terms. whole_text) (text-terms n 0) (λ terms. text-whole (Signed128 0))) s.from t c
     ∙ ap (λ k. decimal k ++ (each_text multiple_text ts ++ whole_text (s.from.1.1))) count ∙ ap lin_text (sym s.is)
 
 abbrev sum_text : Lin → List ℕ
@@ -122,12 +122,12 @@ row_text (row.Low clause x j) = codes "low" ++ (index_text clause ++ (index_text
 row_is : (kind : RowKind) (a : Row) (t : List ℕ) → RowParts kind a t → row_word kind ++ t ≡ row_text a
 row_is Inst a t s =
     ap (λ z. codes "inst" ++ z) (text-cat Index (λ c. Cat Index (λ x. Cat Whole (λ a. Sum))) index_text (λ c p. index_text p.0 ++ (whole_text (p.1.0) ++ sum_text (p.1.1))) (text-index _)
-      (λ c. text-cat Index (λ x. Cat Whole (λ a. Sum)) index_text (λ x p. whole_text p.0 ++ sum_text p.1) (text-index _)
-      (λ x. text-cat Whole (λ a. Sum) whole_text (λ a. sum_text) (text-whole _) (λ a. text-sum))) s.from t s.spelled)
+    (λ c. text-cat Index (λ x. Cat Whole (λ a. Sum)) index_text (λ x p. whole_text p.0 ++ sum_text p.1) (text-index _)
+    (λ x. text-cat Whole (λ a. Sum) whole_text (λ a. sum_text) (text-whole _) (λ a. text-sum))) s.from t s.spelled)
     ∙ ap row_text (sym s.is)
 row_is Low a t s =
     ap (λ z. codes "low" ++ z) (text-cat Index (λ c. Cat Index (λ x. Whole)) index_text (λ c p. index_text p.0 ++ whole_text p.1) (text-index _)
-      (λ c. text-cat Index (λ x. Whole) index_text (λ x. whole_text) (text-index _) (λ x. text-whole _)) s.from t s.spelled)
+    (λ c. text-cat Index (λ x. Whole) index_text (λ x. whole_text) (text-index _) (λ x. text-whole _)) s.from t s.spelled)
     ∙ ap row_text (sym s.is)
 
 text-row : Texts SpellsRow row_text
@@ -174,7 +174,7 @@ module _ (L : Tree → List ℕ → Type 0) (l : Texts L tree_text) where
       let n = s.from.0 in
       let ts = s.from.1 in
       ap (λ z. codes "case" ++ z) (text-cat Index (λ c. Counted (Blank L)) index_text (λ c. counted_text (λ a. behind (tree_text a))) (text-index _) (λ c. children) s.from t s.spelled
-        ∙ ap (λ z. index_text n ++ z) (sym (counted-map ts)))
+      ∙ ap (λ z. index_text n ++ z) (sym (counted-map ts)))
       ∙ sym (fold_out-Tree (List ℕ) node_text (node.Case n ts) ∙ ap at_layer (outs-Case n ts)) ∙ ap tree_text (sym s.is)
   node_is Combine a t s =
       let n = s.from.0 in
@@ -191,28 +191,28 @@ module _ (L : Tree → List ℕ → Type 0) (l : Texts L tree_text) where
       let u = s.from.1.0 in
       let v = s.from.1.1 in
       ap (λ z. codes "branch" ++ z) (text-cat Sum (λ c. Cat (Blank L) (λ d. Blank L)) sum_text (λ c p. behind (tree_text p.0) ++ behind (tree_text p.1)) text-sum
-        (λ c. text-cat (Blank L) (λ d. Blank L) (λ a. behind (tree_text a)) (λ d a. behind (tree_text a)) child (λ d. child)) s.from t s.spelled)
+      (λ c. text-cat (Blank L) (λ d. Blank L) (λ a. behind (tree_text a)) (λ d a. behind (tree_text a)) child (λ d. child)) s.from t s.spelled)
       ∙ sym (fold_out-Tree (List ℕ) node_text (node.Branch n u v) ∙ ap at_layer (outs-Branch n u v)) ∙ ap tree_text (sym s.is)
   node_is Residues a t s =
       let m = s.from.0 in
       let u = s.from.1.0 in
       let ts = s.from.1.1 in
       ap (λ z. codes "residues" ++ z) (text-cat Modulus (λ c. Cat Sum (λ d. Times (Blank L) c)) index_text (λ c p. sum_text p.0 ++ each_text (λ a. behind (tree_text a)) p.1) (text-index _)
-        (λ c. text-cat Sum (λ d. Times (Blank L) c) sum_text (λ d. each_text (λ a. behind (tree_text a))) text-sum (λ d. text-times (Blank L) (λ a. behind (tree_text a)) child c)) s.from t s.spelled
-        ∙ ap (λ z. index_text m ++ (sum_text u ++ z)) (sym (each-map ts)))
+      (λ c. text-cat Sum (λ d. Times (Blank L) c) sum_text (λ d. each_text (λ a. behind (tree_text a))) text-sum (λ d. text-times (Blank L) (λ a. behind (tree_text a)) child c)) s.from t s.spelled
+      ∙ ap (λ z. index_text m ++ (sum_text u ++ z)) (sym (each-map ts)))
       ∙ sym (fold_out-Tree (List ℕ) node_text (node.Residues (pos m) u ts) ∙ ap at_layer (outs-Residues (pos m) u ts)) ∙ ap tree_text (sym s.is)
   node_is Solve a t s =
       let n = s.from.0 in
       let p = s.from.1.0 in
       let u = s.from.1.1 in
       ap (λ z. codes "solve" ++ z) (text-cat Index (λ c. Cat Index (λ d. Blank L)) index_text (λ c p. index_text p.0 ++ behind (tree_text p.1)) (text-index _)
-        (λ c. text-cat Index (λ d. Blank L) index_text (λ d a. behind (tree_text a)) (text-index _) (λ d. child)) s.from t s.spelled)
+      (λ c. text-cat Index (λ d. Blank L) index_text (λ d a. behind (tree_text a)) (text-index _) (λ d. child)) s.from t s.spelled)
       ∙ sym (fold_out-Tree (List ℕ) node_text (node.Solve n p u) ∙ ap at_layer (outs-Solve n p u)) ∙ ap tree_text (sym s.is)
   node_is Least a t s =
       let n = s.from.0 in
       let ts = s.from.1 in
       ap (λ z. codes "least" ++ z) (text-cat Index (λ c. Counted (Blank L)) index_text (λ c. counted_text (λ a. behind (tree_text a))) (text-index _) (λ c. children) s.from t s.spelled
-        ∙ ap (λ z. index_text n ++ z) (sym (counted-map ts)))
+      ∙ ap (λ z. index_text n ++ z) (sym (counted-map ts)))
       ∙ sym (fold_out-Tree (List ℕ) node_text (node.Least n ts) ∙ ap at_layer (outs-Least n ts)) ∙ ap tree_text (sym s.is)
   node_is Clash a t s =
       ap (λ z. codes "clash" ++ z) (text-index _ s.from t s.spelled)
@@ -240,8 +240,8 @@ cert_text c = codes "cert" ++ (rows_text c.rows ++ (32 ∷ tree_text c.tree))
 pub text-cert : (a : Cert) (t : List ℕ) → Spells a t → t ≡ cert_text a
 text-cert a t s =
     text-cat (Exactly (codes "cert")) (λ w. Cat (Counted (Blank SpellsRow)) (λ r. Blank SpellsTree)) (λ w. codes "cert") (λ w p. rows_text p.0 ++ (32 ∷ tree_text p.1)) (λ w t e. e)
-      (λ w. text-cat (Counted (Blank SpellsRow)) (λ r. Blank SpellsTree) rows_text (λ r a. 32 ∷ tree_text a) (text-counted (Blank SpellsRow) (λ r. 32 ∷ row_text r) (text-blank SpellsRow row_text text-row))
-      (λ r. text-blank SpellsTree tree_text text-tree)) s.from t s.spelled
+    (λ w. text-cat (Counted (Blank SpellsRow)) (λ r. Blank SpellsTree) rows_text (λ r a. 32 ∷ tree_text a) (text-counted (Blank SpellsRow) (λ r. 32 ∷ row_text r) (text-blank SpellsRow row_text text-row))
+    (λ r. text-blank SpellsTree tree_text text-tree)) s.from t s.spelled
     ∙ ap cert_text (sym s.is)
 
 pub one_text : (a : Cert) (t u : List ℕ) → Spells a t → Spells a u → t ≡ u

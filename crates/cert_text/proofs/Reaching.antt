@@ -99,6 +99,7 @@ module _ (In : ℕ → Type 0) where
       inside (m ∷ ms) p q =
           let digits = and_parts _ _ (sym (list_all-append is_digit r.text (m ∷ ms)) ∙ ap (list_all is_digit) (sym p) ∙ all_digits v) in
           absurd (no_digit_head m (ms ++ rest) rest' q r.ends (and_parts _ _ digits.1).0)
+
       by : Fronts r.text rest' (decimal v) rest → Other v rest n
       by (within more p q) = inside more p q
       by (beyond c more p q) = on c (more ++ rest') q (record { value = n; text = r.text; tail = more; spelled = r.spelled; begins = p ∙ sym (append_assoc (decimal v) (c ∷ []) more) })
@@ -116,14 +117,14 @@ module _ (In : ℕ → Type 0) where
   pub fails_at_digit : (bytes : List ℕ) (v c : ℕ) (cs : List ℕ) → bytes ≡ decimal v ++ c ∷ cs → GoesOn (Number In) (decimal v)
       → is_digit c ≡ true → (0 < v → Reaches In (10 * v + (c - 48)) → ⊥) → Fails (Number In) bytes (length (c ∷ cs))
   fails_at_digit bytes v c cs w g d missing = record {
-      front = decimal v;
-      rest = c ∷ cs;
-      whole = w;
-      left_is = refl;
-      goes_on = g;
-      stops = λ k. let l = longer_reaches v c k in missing l.1 l.2;
-      none = λ n rest r. by n (other_front v n bytes (c ∷ cs) rest w r);
-    }
+    front = decimal v;
+    rest = c ∷ cs;
+    whole = w;
+    left_is = refl;
+    goes_on = g;
+    stops = λ k. let l = longer_reaches v c k in missing l.1 l.2;
+    none = λ n rest r. by n (other_front v n bytes (c ∷ cs) rest w r);
+  }
     where
       by : (n : ℕ) → Other v (c ∷ cs) n → ⊥
       by n (here e k) = false≢true (sym k ∙ d)
@@ -136,18 +137,19 @@ module _ (In : ℕ → Type 0) where
   pub fails_at_end : (bytes : List ℕ) (v : ℕ) (rest : List ℕ) → bytes ≡ decimal v ++ rest → GoesOn (Number In) (decimal v) → NoDigit rest → (In v → ⊥)
       → Fails (Number In) bytes (length rest)
   fails_at_end bytes v rest w g d missing = record {
-      front = decimal v;
-      rest = rest;
-      whole = w;
-      left_is = refl;
-      goes_on = g;
-      stops = stop rest d;
-      none = λ n rest' r. by n r (other_front v n bytes rest rest' w r);
-    }
+    front = decimal v;
+    rest = rest;
+    whole = w;
+    left_is = refl;
+    goes_on = g;
+    stops = stop rest d;
+    none = λ n rest' r. by n r (other_front v n bytes rest rest' w r);
+  }
     where
       stop : (rest : List ℕ) → NoDigit rest → StopsAt (Number In) (decimal v) rest
       stop [] k = tt
       stop (b ∷ bs) k = λ g. false≢true (sym k ∙ (longer_reaches v b g).0)
+
       by : (n : ℕ) {rest' : List ℕ} (r : Reads (Number In) bytes n rest') → Other v rest n → ⊥
       by n r (here e k) = missing (subst In (sym e) r.spelled.is_in)
       by n r (on b bs e k) = no_digit_head b bs rest e d (longer_reaches v b k).0
@@ -160,30 +162,33 @@ module _ (In : ℕ → Type 0) where
   first_reaches : (b : ℕ) → GoesOn (Number In) (b ∷ []) → (is_digit b ≡ true) × (b ≡ 48 → In 0) × (48 < b → Reaches In (b - 48))
   first_reaches b g =
       let e : decimal g.value ≡ b ∷ g.tail = sym g.spelled.digits ∙ g.begins in
-      let digit = (and_parts _ _ (ap (list_all is_digit) (sym e) ∙ all_digits g.value)).0 in
-      (digit, λ z. zero_only g.value g.tail (e ∙ ap (λ c. c ∷ g.tail) z) g.spelled.is_in,
-      λ p. record { number = g.value; more = length g.tail; is_in = g.spelled.is_in; begins = front_value g.value (b ∷ []) g.tail e ∙ omega arith })
-      where
-        zero_only : (n : ℕ) (tail : List ℕ) → decimal n ≡ 48 ∷ tail → In n → In 0
-        zero_only n [] e h = subst In (sym (decimal_value n) ∙ ap (reading 0) e) h
-        zero_only n (c ∷ w) e h = absurd (no_leading_zero n c w e)
+      let digit = (and_parts _ _ (ap (list_all is_digit) (sym e) ∙ all_digits g.value)).0 in (
+        digit,
+        λ z. zero_only g.value g.tail (e ∙ ap (λ c. c ∷ g.tail) z) g.spelled.is_in,
+        λ p. record { number = g.value; more = length g.tail; is_in = g.spelled.is_in; begins = front_value g.value (b ∷ []) g.tail e ∙ omega arith },
+      )
+    where
+      zero_only : (n : ℕ) (tail : List ℕ) → decimal n ≡ 48 ∷ tail → In n → In 0
+      zero_only n [] e h = subst In (sym (decimal_value n) ∙ ap (reading 0) e) h
+      zero_only n (c ∷ w) e h = absurd (no_leading_zero n c w e)
 
   -- the first byte begins no number of these
   pub fails_at_front : (bytes : List ℕ) → HasOne (Number In) → ((b : ℕ) (bs : List ℕ) → bytes ≡ b ∷ bs → is_digit b ≡ true → (b ≡ 48 → In 0) → (48 < b → Reaches In (b - 48)) → ⊥)
       → Fails (Number In) bytes (length bytes)
   fails_at_front bytes one missing = record {
-      front = [];
-      rest = bytes;
-      whole = refl;
-      left_is = refl;
-      goes_on = record { value = one.value; text = one.text; tail = one.text; spelled = one.spelled; begins = refl };
-      stops = stop bytes missing;
-      none = λ n rest r. read n rest r (decimal_head n);
-    }
+    front = [];
+    rest = bytes;
+    whole = refl;
+    left_is = refl;
+    goes_on = record { value = one.value; text = one.text; tail = one.text; spelled = one.spelled; begins = refl };
+    stops = stop bytes missing;
+    none = λ n rest r. read n rest r (decimal_head n);
+  }
     where
       stop : (bytes : List ℕ) → ((b : ℕ) (bs : List ℕ) → bytes ≡ b ∷ bs → is_digit b ≡ true → (b ≡ 48 → In 0) → (48 < b → Reaches In (b - 48)) → ⊥) → StopsAt (Number In) [] bytes
       stop [] m = tt
       stop (b ∷ bs) m = λ g. let f = first_reaches b g in m b bs refl f.0 f.1 f.2
+
       read : (n : ℕ) (rest : List ℕ) → Reads (Number In) bytes n rest → Head n → ⊥
       read n rest r h =
           let e : r.text ≡ h.head ∷ h.tail = r.spelled.digits ∙ h.is in
@@ -196,16 +201,16 @@ pub window_front : (low high : ℕ) (bytes : List ℕ) (d : ℕ) (rest : List �
     → ((d ≡ 0 → Within low high 0 → ⊥) × (0 < d → Reaches (Within low high) d → ⊥)) → Fails (Number (Within low high)) bytes (length bytes)
 window_front low high bytes d rest o w h missing =
     fails_at_front (Within low high) bytes (has_one-number (Within low high) low (record { from_low = omega arith; to_high = o })) (λ b bs e k at_zero more. by b bs e at_zero more (ltb 0 d) refl)
-    where
-      by : (b : ℕ) (bs : List ℕ) → bytes ≡ b ∷ bs → (b ≡ 48 → Within low high 0) → (48 < b → Reaches (Within low high) (b - 48)) → (t : Bool) → ltb 0 d ≡ t → ⊥
-      by b bs e at_zero more true f =
-          let same : b ≡ 48 + d = head_same (sym e ∙ w) in
-          let p = ltb-true 0 d f in
-          missing.1 p (subst (Reaches (Within low high)) (omega arith) (more (omega arith)))
-      by b bs e at_zero more false f =
-          let same : b ≡ 48 + d = head_same (sym e ∙ w) in
-          let z : d ≡ 0 = grind (arith, nat_tests) in
-          missing.0 z (at_zero (omega arith))
+  where
+    by : (b : ℕ) (bs : List ℕ) → bytes ≡ b ∷ bs → (b ≡ 48 → Within low high 0) → (48 < b → Reaches (Within low high) (b - 48)) → (t : Bool) → ltb 0 d ≡ t → ⊥
+    by b bs e at_zero more true f =
+        let same : b ≡ 48 + d = head_same (sym e ∙ w) in
+        let p = ltb-true 0 d f in
+        missing.1 p (subst (Reaches (Within low high)) (omega arith) (more (omega arith)))
+    by b bs e at_zero more false f =
+        let same : b ≡ 48 + d = head_same (sym e ∙ w) in
+        let z : d ≡ 0 = grind (arith, nat_tests) in
+        missing.0 z (at_zero (omega arith))
 
 pub window_no_digit : (low high : ℕ) (bytes : List ℕ) → low ≤ high → NoDigit bytes → Fails (Number (Within low high)) bytes (length bytes)
 window_no_digit low high bytes o h =

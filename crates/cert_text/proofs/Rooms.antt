@@ -45,12 +45,12 @@ one_term low high h =
       coefficient = k.value;
       text = (32 ∷ decimal low) ++ k.text;
       spelled = record {
-          first = 32 ∷ decimal low;
-          second = k.text;
-          first_spelled = record { behind = decimal low; spelled = record { is_in = record { from_low = omega arith; to_high = h }; digits = refl }; joined = refl };
-          second_spelled = k.spelled;
-          joined = refl;
-        };
+        first = 32 ∷ decimal low;
+        second = k.text;
+        first_spelled = record { behind = decimal low; spelled = record { is_in = record { from_low = omega arith; to_high = h }; digits = refl }; joined = refl };
+        second_spelled = k.spelled;
+        joined = refl;
+      };
     }
 
 pub term_fails_first : (low high : ℕ) (bytes : List ℕ) (left : ℕ) → Fails (Unknown low high) bytes left → Fails (Term low high) bytes left
@@ -95,7 +95,7 @@ one_front-terms (suc n) low a b t u x y s r h d e =
     let p = split_terms n low a t s in
     let q = split_terms n low b u r in
     let same = one_front-cat (Term low (2 ^ 32 - suc n)) (λ first. RoomTerms n (suc (first.0))) (one_front-term low (2 ^ 32 - suc n)) (λ first. one_front-terms n (suc (first.0)))
-      (λ first. clear-terms n (suc (first.0))) (p.first, p.more) (q.first, q.more) t u x y p.spelled q.spelled h d e in
+    (λ first. clear-terms n (suc (first.0))) (p.first, p.more) (q.first, q.more) t u x y p.spelled q.spelled h d e in
     record { value = p.is ∙ ap (λ (z : (ℕ × ℤ) × List (ℕ × ℤ)). z.0 ∷ z.1) same.value ∙ sym q.is; text = same.text; rest = same.rest }
 
 pub has_one-terms : (n low : ℕ) → low + n ≤ 2 ^ 32 → HasOne (RoomTerms n low)
@@ -111,9 +111,9 @@ has_one-terms (suc n) low h =
 
 terms_step : (n low : ℕ) (bytes : List ℕ) → Lift (RoomTerms (suc n) low) bytes (Step n low) bytes (λ p. p.0 ∷ p.1)
 terms_step n low bytes = record {
-    fails = λ left f. same_fails (Step n low) (RoomTerms (suc n) low) (λ p t s. (p.0 ∷ p.1, s)) (λ xs t s. let p = split_terms n low xs t s in ((p.first, p.more), p.spelled)) bytes left f;
-    reads = λ p rest r. same_reads (Step n low) (RoomTerms (suc n) low) p (p.0 ∷ p.1) (λ t s. s) bytes rest r;
-  }
+  fails = λ left f. same_fails (Step n low) (RoomTerms (suc n) low) (λ p t s. (p.0 ∷ p.1, s)) (λ xs t s. let p = split_terms n low xs t s in ((p.first, p.more), p.spelled)) bytes left f;
+  reads = λ p rest r. same_reads (Step n low) (RoomTerms (suc n) low) p (p.0 ∷ p.1) (λ t s. s) bytes rest r;
+}
 
 pub terms_first_fails : (n low : ℕ) (bytes : List ℕ) (left : ℕ) → low + suc n ≤ 2 ^ 32 → Fails (Term low (2 ^ 32 - suc n)) bytes left → Fails (RoomTerms (suc n) low) bytes left
 terms_first_fails n low bytes left room f =
@@ -146,9 +146,9 @@ terms_more count bytes terms low (suc n) rest last a h s r =
       lift = subst (λ y. Lift (RoomTerms count 0) bytes (RoomTerms (suc n - 1) y) last (λ more. (terms ++ a ∷ []) ++ more)) next
           (subst (λ m. Lift (RoomTerms count 0) bytes (RoomTerms m (suc x)) last (λ more. (terms ++ a ∷ []) ++ more)) less
           (record {
-              fails = whole.fails;
-              reads = λ b end g. subst (λ v. Reads (RoomTerms count 0) bytes v end) (sym (append_assoc terms (a ∷ []) b)) (whole.reads b end g);
-            }));
+            fails = whole.fails;
+            reads = λ b end g. subst (λ v. Reads (RoomTerms count 0) bytes v end) (sym (append_assoc terms (a ∷ []) b)) (whole.reads b end g);
+          }));
       room = omega (arith, s.room, r.spelled.first_spelled.spelled.is_in.to_high);
       ends = r.ends;
     }
@@ -187,12 +187,12 @@ terms_forth (suc n) low (x ∷ xs) t s =
       first = s.first;
       second = s.second;
       first_spelled = record {
-          first = f.first;
-          second = f.second;
-          first_spelled = record { behind = u.behind; spelled = record { is_in = record { from_low = u.spelled.is_in.from_low; to_high = omega (arith, u.spelled.is_in.to_high) }; digits = u.spelled.digits }; joined = u.joined };
-          second_spelled = f.second_spelled;
-          joined = f.joined;
-        };
+        first = f.first;
+        second = f.second;
+        first_spelled = record { behind = u.behind; spelled = record { is_in = record { from_low = u.spelled.is_in.from_low; to_high = omega (arith, u.spelled.is_in.to_high) }; digits = u.spelled.digits }; joined = u.joined };
+        second_spelled = f.second_spelled;
+        joined = f.joined;
+      };
       second_spelled = terms_forth n (suc (x.0)) xs s.second s.second_spelled;
       joined = s.joined;
     }
@@ -214,23 +214,24 @@ terms_back (suc n) low (x ∷ xs) t s =
     record {
       room = λ h. omega (arith, u.spelled.is_in.from_low, room_fit n (x.0) more.room u.spelled.is_in.to_high);
       spelled = record {
-          first = s.first;
-          second = s.second;
-          first_spelled = record {
-              first = f.first;
-              second = f.second;
-              first_spelled = record { behind = u.behind; spelled = record { is_in = record { from_low = u.spelled.is_in.from_low; to_high = fits }; digits = u.spelled.digits }; joined = u.joined };
-              second_spelled = f.second_spelled;
-              joined = f.joined;
-            };
-          second_spelled = more.spelled;
-          joined = s.joined;
+        first = s.first;
+        second = s.second;
+        first_spelled = record {
+          first = f.first;
+          second = f.second;
+          first_spelled = record { behind = u.behind; spelled = record { is_in = record { from_low = u.spelled.is_in.from_low; to_high = fits }; digits = u.spelled.digits }; joined = u.joined };
+          second_spelled = f.second_spelled;
+          joined = f.joined;
         };
+        second_spelled = more.spelled;
+        joined = s.joined;
+      };
     }
   where
     room_fit : (n x : ℕ) → (0 < n → suc x + n ≤ 2 ^ 32) → x ≤ 2 ^ 32 - 1 → x + suc n ≤ 2 ^ 32
     room_fit zero x r h = omega arith
     room_fit (suc n) x r h = omega (arith, r (omega arith))
+
     fit : (n x : ℕ) → (0 < n → suc x + n ≤ 2 ^ 32) → x ≤ 2 ^ 32 - 1 → x ≤ 2 ^ 32 - suc n
     fit n x r h = omega (arith, room_fit n x r h)
 
@@ -293,23 +294,23 @@ has_one-lin =
       value = lin_of (0, e.value);
       text = decimal 0 ++ e.text;
       spelled = record {
-          from = (0, e.value);
-          is = refl;
-          spelled = parts_forth (0, e.value) (decimal 0 ++ e.text) (record {
-                first = decimal 0;
-                second = e.text;
-                first_spelled = record { is_in = record { from_low = omega arith; to_high = omega arith }; digits = refl };
-                second_spelled = e.spelled;
-                joined = refl;
-              });
-        };
+        from = (0, e.value);
+        is = refl;
+        spelled = parts_forth (0, e.value) (decimal 0 ++ e.text) (record {
+          first = decimal 0;
+          second = e.text;
+          first_spelled = record { is_in = record { from_low = omega arith; to_high = omega arith }; digits = refl };
+          second_spelled = e.spelled;
+          joined = refl;
+        });
+      };
     }
 
 lin_parts : (bytes : List ℕ) → Lift SpellsLin bytes Parts bytes lin_of
 lin_parts bytes = lift-then (lift-image lin_of Written bytes) (record {
-      fails = λ left f. same_fails Parts Written (λ p t s. (p, parts_forth p t s)) (λ p t s. (p, parts_back p t s)) bytes left f;
-      reads = λ p rest r. same_reads Parts Written p p (parts_forth p) bytes rest r;
-    })
+  fails = λ left f. same_fails Parts Written (λ p t s. (p, parts_forth p t s)) (λ p t s. (p, parts_back p t s)) bytes left f;
+  reads = λ p rest r. same_reads Parts Written p p (parts_forth p) bytes rest r;
+})
 
 pub lin_fails : (bytes : List ℕ) (left : ℕ) → Fails (Number (Within 0 (2 ^ 32))) bytes left → Fails SpellsLin bytes left
 lin_fails bytes left f =

@@ -42,10 +42,10 @@ sure-times {A} L l (suc n) =
     let c : Sure (Cat L (λ y. Times L n)) = sure-cat l (λ y. sure-times L l n) in
     record {
       one = λ a b t u x y s r h d e.
-        let p = split-times L n a t s in
-        let q = split-times L n b u r in
-        let same = c.one (p.first, p.more) (q.first, q.more) t u x y p.spelled q.spelled h d e in
-        record { value = p.is ∙ ap (λ (z : A × List A). z.0 ∷ z.1) same.value ∙ sym q.is; text = same.text; rest = same.rest };
+          let p = split-times L n a t s in
+          let q = split-times L n b u r in
+          let same = c.one (p.first, p.more) (q.first, q.more) t u x y p.spelled q.spelled h d e in
+          record { value = p.is ∙ ap (λ (z : A × List A). z.0 ∷ z.1) same.value ∙ sym q.is; text = same.text; rest = same.rest };
       clear = λ a t s. let p = split-times L n a t s in c.clear (p.first, p.more) t p.spelled;
     }
 
@@ -92,10 +92,10 @@ has_one-tree =
       value = node.Clash n.value;
       text = codes "clash" ++ n.text;
       spelled = from_node (node.Clash n.value) (codes "clash" ++ n.text) (record {
-              from = (Clash, node.Clash n.value);
-              is = refl;
-              spelled = record { first = codes "clash"; second = n.text; first_spelled = refl; second_spelled = record { from = n.value; is = refl; spelled = n.spelled }; joined = refl };
-            });
+        from = (Clash, node.Clash n.value);
+        is = refl;
+        spelled = record { first = codes "clash"; second = n.text; first_spelled = refl; second_spelled = record { from = n.value; is = refl; spelled = n.spelled }; joined = refl };
+      });
     }
 
 pub regular-tree : Regular SpellsTree
@@ -124,6 +124,6 @@ regular-node_parts Clash = regular-image _ _ regular-index
 -- from a tree to its node
 pub tree_node : (bytes : List ℕ) → Lift SpellsTree bytes (Node SpellsTree) bytes (λ (a : Tree). a)
 tree_node bytes = record {
-    fails = λ left f. same_fails (Node SpellsTree) SpellsTree (λ a t s. (a, from_node a t s)) (λ a t s. (a, to_node a t s)) bytes left f;
-    reads = λ a rest r. same_reads (Node SpellsTree) SpellsTree a a (from_node a) bytes rest r;
-  }
+  fails = λ left f. same_fails (Node SpellsTree) SpellsTree (λ a t s. (a, from_node a t s)) (λ a t s. (a, to_node a t s)) bytes left f;
+  reads = λ a rest r. same_reads (Node SpellsTree) SpellsTree a a (from_node a) bytes rest r;
+}

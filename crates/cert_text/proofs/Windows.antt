@@ -15,11 +15,11 @@ pub record Widened (value low least most : ℕ) : Type 0 where
 
 pub widened_first : (value low : ℕ) → Widened value low value value
 widened_first value low = record {
-    more = 0;
-    least_is = omega arith;
-    most_is = omega arith;
-    fewer = λ j h. absurd (omega arith);
-  }
+  more = 0;
+  least_is = omega arith;
+  most_is = omega arith;
+  fewer = λ j h. absurd (omega arith);
+}
 
 -- ten times a product
 ten_times : (a p : ℕ) → 10 * (a * p) ≡ a * (p * 10)
@@ -33,17 +33,17 @@ widened_next value low least most w h =
       more = suc w.more;
       least_is = ap (λ z. 10 * z) w.least_is ∙ ten_times value p ∙ ap (λ z. value * z) (sym power);
       most_is =
-        let tens : 10 * most + 9 + 1 ≡ 10 * (most + 1) = omega arith in
-        tens ∙ ap (λ z. 10 * z) w.most_is ∙ ten_times (value + 1) p ∙ ap (λ z. (value + 1) * z) (sym power);
+          let tens : 10 * most + 9 + 1 ≡ 10 * (most + 1) = omega arith in
+          tens ∙ ap (λ z. 10 * z) w.most_is ∙ ten_times (value + 1) p ∙ ap (λ z. (value + 1) * z) (sym power);
       fewer = λ j l. by j l (ltb j w.more) refl;
     }
-    where
-      by : (j : ℕ) → j < suc w.more → (t : Bool) → ltb j w.more ≡ t → (value + 1) * 10 ^ j ≤ low
-      by j l true e = w.fewer j (ltb-true j w.more e)
-      by j l false e =
-          let same : j ≡ w.more = let n : w.more ≤ j = grind (arith, nat_tests) in omega arith in
-          let at : (value + 1) * 10 ^ j ≡ most + 1 = ap (λ i. (value + 1) * 10 ^ i) same ∙ sym w.most_is in
-          omega arith
+  where
+    by : (j : ℕ) → j < suc w.more → (t : Bool) → ltb j w.more ≡ t → (value + 1) * 10 ^ j ≤ low
+    by j l true e = w.fewer j (ltb-true j w.more e)
+    by j l false e =
+        let same : j ≡ w.more = let n : w.more ≤ j = grind (arith, nat_tests) in omega arith in
+        let at : (value + 1) * 10 ^ j ≡ most + 1 = ap (λ i. (value + 1) * 10 ^ i) same ∙ sym w.most_is in
+        omega arith
 
 -- with the power of ten
 span : (value low least most : ℕ) (w : Widened value low least most) → (most + 1 ≡ least + 10 ^ w.more) × (0 < 10 ^ w.more)
@@ -67,6 +67,7 @@ widened_yes value low high least most o w l h = by (ltb least low) refl
           is_in = record { from_low = a; to_high = b };
           begins = ap (λ m. m / p) whole ∙ div-mul-add value p (n - least) (omega (arith, s.0));
         }
+
     by : (t : Bool) → ltb least low ≡ t → Reaches (Within low high) value
     by true e = let k = ltb-true least low e in reach low (omega arith) o (omega arith) l
     by false e =
@@ -79,6 +80,7 @@ widened_no value low high least most w r = by (ltb r.more w.more) refl
   where
     power : (j : ℕ) → 0 < 10 ^ j
     power j = one-le-pow j 10 (omega arith)
+
     by : (t : Bool) → ltb r.more w.more ≡ t → least ≤ high
     by true e =
         let q = 10 ^ r.more in

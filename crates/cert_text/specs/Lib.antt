@@ -7,3 +7,4 @@ pub mod Grammar
 pub mod Places
 pub mod Counting
 pub mod Parsing
+pub mod Printing

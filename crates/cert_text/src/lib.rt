@@ -8,7 +8,10 @@ mod laws;
 mod lins;
 mod numbers;
 mod parts;
+mod printing;
 mod signs;
+#[cfg(test)]
+mod tests;
 mod trees;
 mod words;
 
@@ -19,6 +22,7 @@ pub use laws::{a_digit_follows, one_certificate, one_spelling};
 pub use lins::{blank_number, blank_signed, lin};
 pub use numbers::{count, number, word32};
 pub use parts::{blank_count, blank_lin, index, multiples, row, rows};
+pub use printing::{push_count, push_index, push_multiples, push_whole};
 pub use signs::signed;
 pub use trees::{blank_tree, tree};
 pub use words::{blank, exactly, one_of};

@@ -6,7 +6,6 @@ ghost use Rattle.cert_text.specs.Numbers.{Number, Within, Word32, Signed, Signed
 ghost use Rattle.cert_text.specs.Failing.{Unreadable};
 ghost use Rattle.cert_text.specs.Sums.{Term, RoomTerms, SpellsLin};
 
-
 use crate::bad_texts::{Bad, Unread};
 use crate::numbers::number;
 use crate::signs::signed;
@@ -47,11 +46,7 @@ fn term(text: &[u8], low: u128, high: u128) -> Result<((u32, i128), &[u8]), Bad>
 }
 
 // So many terms by ascending unknown, each of which leaves room for those behind it.
-fn terms(
-    alloc: Global,
-    text: &[u8],
-    count: u128,
-) -> Result<(Items<(u32, i128)>, &[u8]), Unread>
+fn terms(alloc: Global, text: &[u8], count: u128) -> Result<(Items<(u32, i128)>, &[u8]), Unread>
     requires few { count ≤ 2 ^ 32 }
     requires clear { NoDigit text.now }
     ensures { MatchResult result (λ f. Reads (RoomTerms count 0) text.now f.0 f.1.now)

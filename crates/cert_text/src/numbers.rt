@@ -7,7 +7,6 @@ ghost use Rattle.cert_text.specs.Numbers.{Number, Within, Any, Word32, Signed, S
 
 use crate::bad_texts::Bad;
 
-
 // The digit in front, and what follows it.
 fn next_digit(text: &[u8]) -> Option<(u8, &[u8])>
     ensures digit { IfSome result (λ f. (text.now ≡ (48 + f.0) ∷ f.1.now) × (f.0 < 10)) }

@@ -12,11 +12,7 @@ pub(crate) fn after_byte(text: &[u8], byte: u8) -> Option<&[u8]>
     ensures none { IfNone result ((rest : List ℕ) → text.now ≡ byte ∷ rest → ⊥) }
 {
     let (first, rest) = text.split_first()?;
-    if *first == byte {
-        Some(rest)
-    } else {
-        None
-    }
+    if *first == byte { Some(rest) } else { None }
 }
 
 /// What follows a blank. Bad where there is none.

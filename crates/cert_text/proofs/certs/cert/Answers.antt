@@ -49,4 +49,3 @@ returns c =
     let l1 = read_next l0 regular-word (λ v. (both regular-rows (λ v. regular-blank_tree))) c.in_ok-behind.ensures in
     let l2 = read_next l1 regular-rows (λ v. regular-blank_tree) c.in_ok-rows.ensures in
     l2.reads c.in_ok-tree.tree c.in_ok-tree.rest.now c.in_ok-tree.ensures
-

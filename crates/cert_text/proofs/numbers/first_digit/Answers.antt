@@ -15,6 +15,7 @@ returns-then-not-goes_on-clause-err c =
     (λ z w. false≢true (sym c.if-not-goes_on.true ∙ c.goes_on.ensures.zero (c.from-value.ensures ∙ z) w), λ p r. false≢true (sym c.if-not-goes_on.true ∙ c.goes_on.ensures.positive (omega (arith, c.from-value.ensures)) (subst (Reaches (Within c.args.low c.args.high)) (sym c.from-value.ensures) r)))
 
 pub returns-clause-ok : goal.returns-clause-ok
-returns-clause-ok c =
-    (c.in-Some.ensures.digit.0 ∙ ap (λ t. t ++ c.in-Some.rest.now) (sym (decimal_digit c.in-Some.digit c.in-Some.ensures.digit.1)) ∙ ap (λ v. decimal v ++ c.in-Some.rest.now) (sym c.from-value.ensures),
-    c.goes_on.ensures.yes c.if-not-goes_on.false)
+returns-clause-ok c = (
+  c.in-Some.ensures.digit.0 ∙ ap (λ t. t ++ c.in-Some.rest.now) (sym (decimal_digit c.in-Some.digit c.in-Some.ensures.digit.1)) ∙ ap (λ v. decimal v ++ c.in-Some.rest.now) (sym c.from-value.ensures),
+  c.goes_on.ensures.yes c.if-not-goes_on.false,
+)

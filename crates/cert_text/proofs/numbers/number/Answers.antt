@@ -10,10 +10,10 @@ returns-in_default-with_digit c =
 
 pub loop-digit-preserved : goal.loop-digit-preserved
 loop-digit-preserved c = record {
-    whole = window_longer c.args.text.now c.loop-digit.value c.in-Some.digit c.in-Some-with_digit.longer c.loop-digit.rest.now c.in-Some.more.now c.loop-digit.invariant.whole
+  whole = window_longer c.args.text.now c.loop-digit.value c.in-Some.digit c.in-Some-with_digit.longer c.loop-digit.rest.now c.in-Some.more.now c.loop-digit.invariant.whole
       c.in-Some.ensures.digit.0 c.in-Some.ensures.digit.1 c.in-Some-with_digit.ensures.some.1 c.in-Some-with_digit.ensures.some.0;
-    goes_on = c.in-Some-with_digit.ensures.some.2;
-  }
+  goes_on = c.in-Some-with_digit.ensures.some.2;
+}
 
 pub returns-then-value-low : goal.returns-then-value-low
 returns-then-value-low c =

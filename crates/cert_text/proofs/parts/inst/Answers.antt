@@ -16,6 +16,7 @@ use Rattle.cert_text.proofs.Lifting.{lift-self, lift-image, lift-blank, no_blank
 use Rattle.cert_text.proofs.Chains.{read_next, next_fails, next_unread, last_unread, both}
 use Rattle.cert_text.proofs.Regulars.{regular-index, regular-whole, regular-modulus, regular-sum, regular-multiple, regular-multiples}
 use Rattle.cert_text.proofs.parts.inst.Goals as goal
+
 pub returns-in_err-clause : goal.returns-in_err-clause
 returns-in_err-clause c =
     let l0 = lift-image (λ (p : ℕ × (ℕ × (ℤ × Lin))). row.Inst p.0 (p.1.0) (p.1.1.0) (p.1.1.1)) (Cat Index (λ clause. Cat Index (λ x. Cat Whole (λ a. Sum)))) c.args.text.now in
@@ -54,4 +55,3 @@ returns c =
     let l3 = read_next l2 regular-whole (λ v. regular-sum) c.in_ok-a.ensures in
     let fits : FitsSigned w128 c.in_ok-a.a = search rules in
     rw (to_z-of_z w128 c.in_ok-a.a fits) (l3.reads c.in_ok-t.t c.in_ok-t.rest.now c.in_ok-t.ensures)
-

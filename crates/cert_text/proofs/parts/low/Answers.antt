@@ -16,6 +16,7 @@ use Rattle.cert_text.proofs.Lifting.{lift-self, lift-image, lift-blank, no_blank
 use Rattle.cert_text.proofs.Chains.{read_next, next_fails, next_unread, last_unread, both}
 use Rattle.cert_text.proofs.Regulars.{regular-index, regular-whole, regular-modulus, regular-sum, regular-multiple, regular-multiples}
 use Rattle.cert_text.proofs.parts.low.Goals as goal
+
 pub returns-in_err-clause : goal.returns-in_err-clause
 returns-in_err-clause c =
     let l0 = lift-image (λ (p : ℕ × (ℕ × ℤ)). row.Low p.0 (p.1.0) (p.1.1)) (Cat Index (λ clause. Cat Index (λ x. Whole))) c.args.text.now in
@@ -44,4 +45,3 @@ returns c =
     let l2 = read_next l1 regular-index (λ v. regular-whole) c.in_ok-x.ensures in
     let fits : FitsSigned w128 c.in_ok-j.j = search rules in
     rw (to_z-of_z w128 c.in_ok-j.j fits) (l2.reads c.in_ok-j.j c.in_ok-j.rest.now c.in_ok-j.ensures)
-

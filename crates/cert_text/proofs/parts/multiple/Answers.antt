@@ -16,6 +16,7 @@ use Rattle.cert_text.proofs.Lifting.{lift-self, lift-image, lift-blank, no_blank
 use Rattle.cert_text.proofs.Chains.{read_next, next_fails, next_unread, last_unread, both}
 use Rattle.cert_text.proofs.Regulars.{regular-index, regular-whole, regular-modulus, regular-sum, regular-multiple, regular-multiples}
 use Rattle.cert_text.proofs.parts.multiple.Goals as goal
+
 pub returns-in_err-fact : goal.returns-in_err-fact
 returns-in_err-fact c =
     let l0 = lift-self Multiple c.args.text.now in
@@ -35,4 +36,3 @@ returns c =
     let l1 = read_next l0 regular-index (λ v. regular-whole) c.in_ok-fact.ensures in
     let fits : FitsSigned w128 c.in_ok-k.k = search rules in
     rw (to_z-of_z w128 c.in_ok-k.k fits) (l1.reads c.in_ok-k.k c.in_ok-k.rest.now c.in_ok-k.ensures)
-

@@ -42,4 +42,3 @@ returns-in-Low c =
     let l0 = lift-image (λ (p : RowKind × Row). p.1) (Cat RowWord RowParts) c.args.text.now in
     let l1 = read_next l0 regular-row_word regular-row_parts word in
     MatchResult-weaker c.low.result c.low.ensures (λ f r. l1.reads f.0 f.1.now r) (λ e f. last_unread l1 e f)
-

@@ -192,9 +192,9 @@ residues-returns t c =
 
 pub trees-loop-alloc-init : goal.trees-loop-alloc-init
 trees-loop-alloc-init t c = record {
-    so = λ n is. rw c.new-trees.ensures (read_none (Blank SpellsTree) n c.args.text.now c.requires);
-    within = omega arith;
-  }
+  so = λ n is. rw c.new-trees.ensures (read_none (Blank SpellsTree) n c.args.text.now c.requires);
+  within = omega arith;
+}
 
 pub trees-returns-in_err-next : goal.trees-returns-in_err-next
 trees-returns-in_err-next t c = λ n is.
@@ -206,10 +206,10 @@ pub trees-loop-alloc-preserved : goal.trees-loop-alloc-preserved
 trees-loop-alloc-preserved t c = record {
   within = omega (arith, reads_le (Blank SpellsTree) c.loop-alloc.rest.now c.in_ok-next.next c.in_ok-next.more.now c.in_ok-next.ensures);
   so = λ n is.
-    let more = read_more (Blank SpellsTree) regular-blank_tree n c.args.text.now c.loop-alloc.trees c.loop-alloc.rest.now c.in_ok-next.more.now c.in_ok-next.next (omega (arith, is)) (c.loop-alloc.invariant.so n is) c.in_ok-next.ensures in
-    let all = c.in_ok-push.ensures.ok in
-    rw all more;
-  }
+      let more = read_more (Blank SpellsTree) regular-blank_tree n c.args.text.now c.loop-alloc.trees c.loop-alloc.rest.now c.in_ok-next.more.now c.in_ok-next.next (omega (arith, is)) (c.loop-alloc.invariant.so n is) c.in_ok-next.ensures in
+      let all = c.in_ok-push.ensures.ok in
+      rw all more;
+}
 
 pub trees-returns : goal.trees-returns
 trees-returns t c = λ n is. read_all (Blank SpellsTree) n c.args.text.now c.loop-alloc.trees c.loop-alloc.rest.now (omega (arith, is)) (c.loop-alloc.invariant.so n is)
@@ -296,4 +296,3 @@ tree-returns-in-Clash t c =
     let l0 = lift-then (tree_node c.args.text.now) (lift-image (λ (p : NodeKind × Tree). p.1) (Cat NodeWord (NodeParts SpellsTree)) c.args.text.now) in
     let l1 = read_next l0 regular-node_word regular-node_parts word in
     MatchResult-weaker c.clash.result c.clash.ensures (λ f r. l1.reads f.0 f.1.now r) (λ e f. last_unread l1 e f)
-

@@ -43,9 +43,9 @@ decreases-least l = 2 * length l.text.now + 1
 
 abbrev pub invariant-trees-loop-alloc : goal.invariant-trees-loop-alloc
 invariant-trees-loop-alloc l = record {
-    so : (n : ℕ) → IsCount l.count n → ReadSo (Blank SpellsTree) n l.fn.text l.trees l.rest;
-    within : length l.rest ≤ length l.fn.text;
-  }
+  so : (n : ℕ) → IsCount l.count n → ReadSo (Blank SpellsTree) n l.fn.text l.trees l.rest;
+  within : length l.rest ≤ length l.fn.text;
+}
 
 abbrev pub decreases-trees-loop-alloc : goal.decreases-trees-loop-alloc
 decreases-trees-loop-alloc l = l.count - length l.trees

@@ -10,7 +10,7 @@ pub returns-in-Ok : goal.returns-in-Ok
 returns-in-Ok c = one_of_reads (map (λ w. w.now) c.args.words.now) c.loop-i.i c.args.text.now c.in-Ok.rest.now _ (word_at c.args.words.now c.loop-i.i _ c.loop-i-test.true) c.in-Ok.ensures
 
 pub loop-i-preserved : goal.loop-i-preserved
-loop-i-preserved c = 
+loop-i-preserved c =
     subst (Tried (map (λ w. w.now) c.args.words.now) (c.loop-i.i + 1) c.args.text.now) (sym c.min-left.ensures)
     (tried_more (map (λ w. w.now) c.args.words.now) c.loop-i.i c.args.text.now c.loop-i.left _ c.in-Err.bad.left c.loop-i.invariant (word_at c.args.words.now c.loop-i.i _ c.loop-i-test.true) c.in-Err.ensures)
 
