@@ -1,13 +1,13 @@
 -- Texts put one behind the other.
-use Rattle.std.proofs.Common.{◌≡◌, ℕ, zero, suc, ◌+◌, ◌-◌, ◌*◌, ◌/◌, ◌%◌, ◌^◌, ◌<◌, ◌≤◌, ℤ, pos, negsuc, neg_ℤ, List, [], ◌∷◌, ◌++◌, length, length-append, take, get_or, refl, sym, ap, subst, ◌∙◌, append_assoc, append-nil, arith, FitsSigned}
+use Rattle.std.proofs.Common.{◌≡◌, ℕ, zero, suc, ◌+◌, ◌%◌, ◌^◌, ◌<◌, ◌≤◌, ℤ, pos, negsuc, List, [], ◌∷◌, ◌++◌, length, take, refl, sym, ap, subst, ◌∙◌, append_assoc, append-nil, arith, FitsSigned}
 use Rattle.std.specs.Int.{w128}
 use Rattle.std.proofs.lemmas.Int.{ints}
 use Rattle.std.specs.Fmt.{decimal as fmt_decimal, signed_decimal as fmt_signed}
 use Rattle.std.proofs.lemmas.Fmt.{decimal_by_steps_wide}
 use Rattle.cert_text.proofs.Digits.{decimal_digit, decimal_step}
 use Rattle.cert_text.specs.Decimals.{decimal, signed_decimal}
-use Rattle.cert_text.specs.Languages.{Cat, Blank, Image, Times}
-use Rattle.cert_text.specs.Numbers.{Number, Within, Word32, Any, Signed, Signed128, Counted}
+use Rattle.cert_text.specs.Languages.{Cat, Blank, Times}
+use Rattle.cert_text.specs.Numbers.{Number, Any, Signed, Signed128, Counted}
 use Rattle.cert_text.specs.Printing.{Adds}
 
 pub adds-cat : {A B : Type 0} (L : A → List ℕ → Type 0) (M : A → B → List ℕ → Type 0) (a : A) (b : B) (x y z : List ℕ) → Adds L a x y → Adds (M a) b y z → Adds (Cat L M) (a, b) x z

@@ -1,9 +1,9 @@
 -- Parts that are read one behind the other.
-use Rattle.std.proofs.Common.{◌≡◌, ℕ, List, ◌∷◌, refl, sym, ap, subst, ◌∙◌}
+use Rattle.std.proofs.Common.{ℕ, List}
 use Rattle.cert_text.specs.declared.bad_texts.Unread.{Unread}
 use Rattle.cert_text.specs.Failing.{Unreadable}
-use Rattle.cert_text.specs.Languages.{Reads, Fails, Cat, Blank, Image}
-use Rattle.cert_text.proofs.Lifting.{Lift, lift-then, lift-image, lift-blank, Regular, regular-cat, first_fails, first_reads, unreadable_on}
+use Rattle.cert_text.specs.Languages.{Reads, Fails, Cat}
+use Rattle.cert_text.proofs.Lifting.{Lift, lift-then, Regular, regular-cat, first_fails, first_reads, unreadable_on}
 
 pub read_next : {A B C : Type 0} {W : C → List ℕ → Type 0} {L : A → List ℕ → Type 0} {M : A → B → List ℕ → Type 0} {bytes middle last : List ℕ} {f : A × B → C} {a : A}
     → Lift W bytes (Cat L M) middle f → Regular L → ((a : A) → Regular (M a)) → Reads L middle a last → Lift W bytes (M a) last (λ b. f (a, b))

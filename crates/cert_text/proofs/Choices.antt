@@ -1,10 +1,10 @@
 -- Words in front of bytes.
-use Rattle.std.proofs.Common.{◌≡◌, ℕ, zero, suc, ◌+◌, ◌-◌, ◌<◌, ◌≤◌, Bool, true, false, ltb, Bor, map, get_or, take, List, [], ◌∷◌, ◌++◌, length, length-append, min, Option, Some, None, refl, sym, ap, subst, ◌∙◌, append_assoc, append-nil, ◌⊎◌, inl, inr, arith}
+use Rattle.std.proofs.Common.{◌≡◌, ℕ, zero, suc, ◌+◌, ◌<◌, ◌≤◌, Bool, true, false, ltb, Bor, map, get_or, take, List, [], ◌∷◌, ◌++◌, length, length-append, min, Option, Some, refl, sym, ap, subst, ◌∙◌, append_assoc, append-nil, ◌⊎◌, inl, inr, arith}
 use Rattle.std.specs.Prelude.{slice_get}
 use Rattle.std.proofs.lemmas.Bool.{ltb-true}
 use Rattle.std.proofs.lemmas.Bool.Decides.{nat_tests}
 use Rattle.cert_text.specs.Languages.{NoDigit, GoesOn, Reads, StopsAt, Fails, Exactly, OneOf}
-use Rattle.cert_text.proofs.Joining.{Fronts, within, beyond, fronts, head_same, tail_same, drop_front, not_longer}
+use Rattle.cert_text.proofs.Joining.{Fronts, within, beyond, fronts, head_same, drop_front, not_longer}
 
 -- ---- one word
 pub exactly_stops : (word done todo : List ℕ) (c : ℕ) (text rest : List ℕ) → word ≡ done ++ c ∷ todo → text ≡ done ++ rest → ((more : List ℕ) → rest ≡ c ∷ more → ⊥) → Fails (Exactly word) text (length rest)

@@ -1,9 +1,9 @@
 -- Counts of any size.
-use Rattle.std.proofs.Common.{◌≡◌, ℕ, zero, suc, ◌+◌, ◌-◌, ◌*◌, ◌^◌, ◌<◌, ◌≤◌, true, List, [], ◌∷◌, ◌++◌, length, min, refl, sym, ap, subst, ◌∙◌, append-nil, arith}
+use Rattle.std.proofs.Common.{◌≡◌, ℕ, ◌+◌, ◌*◌, ◌<◌, List, [], ◌∷◌, ◌++◌, length, refl, sym, ap, subst, ◌∙◌, append-nil, arith}
 use Rattle.std.proofs.lemmas.Bool.{and_from, le-leb}
-use Rattle.cert_text.specs.Decimals.{is_digit, decimal}
-use Rattle.cert_text.specs.Languages.{NoDigit, GoesOn, Reads, Fails}
-use Rattle.cert_text.specs.Numbers.{Number, Any, Reaches, IsCount, ReadsCount}
+use Rattle.cert_text.specs.Decimals.{decimal}
+use Rattle.cert_text.specs.Languages.{NoDigit, GoesOn, Fails}
+use Rattle.cert_text.specs.Numbers.{Number, Any, IsCount, ReadsCount}
 use Rattle.cert_text.proofs.Digits.{decimal_digit}
 use Rattle.cert_text.proofs.Reaching.{fails_at_front, fails_at_digit, reads_number, has_one-number, no_digit_head, window_longer}
 

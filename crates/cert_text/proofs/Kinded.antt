@@ -1,6 +1,6 @@
 -- The words of nodes and rows.
 use Rattle.std.proofs.Common.{◌≡◌, ℕ, zero, suc, List, [], ◌∷◌, ◌++◌, Option, Some, None, refl, sym, ap, subst, ◌∙◌}
-use Rattle.std.specs.Prelude.{slice_get, codes, ◌==◌, if◌then◌else◌}
+use Rattle.std.specs.Prelude.{codes, ◌==◌, if◌then◌else◌}
 use Rattle.cert_text.specs.declared.kinds.NodeKind.{NodeKind}
 use Rattle.cert_text.specs.declared.kinds.NodeKind.TheVariants.{Case, Combine, Cut, Branch, Residues, Solve, Least, Clash}
 use Rattle.cert_text.specs.declared.kinds.RowKind.{RowKind}
@@ -8,8 +8,8 @@ use Rattle.cert_text.specs.declared.kinds.RowKind.TheVariants.{Inst, Low}
 use Rattle.cert_text.specs.Languages.{NoDigit, Reads, Fails, Exactly, OneOf}
 use Rattle.cert_text.specs.Grammar.{NodeWord, RowWord, node_word, row_word}
 use Rattle.cert_text.specs.Places.{node_words, row_words, node_kind_at, row_kind_at}
-use Rattle.cert_text.proofs.Joining.{StartsClear, HasOne, OneFront, SameFront, same_fails, same_reads, head_same, tail_same, drop_front}
-use Rattle.cert_text.proofs.Lifting.{Lift, Regular}
+use Rattle.cert_text.proofs.Joining.{OneFront, same_fails, same_reads, drop_front}
+use Rattle.cert_text.proofs.Lifting.{Regular}
 
 some_same : {a b : List ℕ} → ◌≡◌ {A = Option (List ℕ)} (Some a) (Some b) → b ≡ a
 some_same h = cc

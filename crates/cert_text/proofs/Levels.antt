@@ -1,21 +1,11 @@
 -- Trees by their levels.
-use Rattle.std.proofs.Common.{◌≡◌, ℕ, zero, suc, ◌+◌, ◌-◌, ◌^◌, ◌≤◌, ℤ, pos, List, [], ◌∷◌, ◌++◌, refl, sym, ap, subst, ◌∙◌, arith}
-use Rattle.lin_base.specs.declared.sums.Lin.{Lin}
+use Rattle.std.proofs.Common.{◌≡◌, ℕ, zero, suc, ◌+◌, List, [], ◌∷◌, sym, subst, ◌∙◌, arith}
 use Rattle.cert_tree.specs.declared.certs.Tree.{Tree}
-use Rattle.cert_tree.specs.declared.certs.Tree.TheVariants as node
 use Rattle.cert_text.specs.declared.kinds.NodeKind.{NodeKind}
 use Rattle.cert_text.specs.declared.kinds.NodeKind.TheVariants.{Case, Combine, Cut, Branch, Residues, Solve, Least, Clash}
-use Rattle.cert_text.specs.Decimals.{decimal}
-use Rattle.cert_text.specs.Languages.{NoDigit, Reads, Fails, Cat, Blank, Image, Times}
-use Rattle.cert_text.specs.Numbers.{Number, Within, Word32, Any, Signed, Signed128, Counted}
-use Rattle.cert_text.specs.Grammar.{Index, Whole, Modulus, Sum, Multiple, NodeWord, NodeParts, Node, TreeWithin, SpellsTree, node_word}
-use Rattle.cert_text.proofs.Joining.{StartsClear, HasOne, OneFront, SameFront, clear-blank, one_front-blank, one_front-cat}
-use Rattle.cert_text.proofs.Lifting.{Lift, Regular, regular-blank, regular-image, clear-cat, one_front-image, has_one-image}
-use Rattle.cert_text.proofs.Lists.{split-times, regular-counted, regular-times}
-use Rattle.cert_text.proofs.Reaching.{one_front-number, has_one-number}
-use Rattle.cert_text.proofs.Kinded.{regular-node_word}
-use Rattle.cert_text.proofs.Regulars.{regular-index, regular-whole, regular-modulus, regular-sum, regular-multiples}
-use Rattle.cert_text.proofs.Chains.{both}
+use Rattle.cert_text.specs.Languages.{Cat, Blank, Image, Times}
+use Rattle.cert_text.specs.Numbers.{Number, Any, Counted}
+use Rattle.cert_text.specs.Grammar.{Index, Modulus, Sum, Multiple, NodeWord, NodeParts, Node, TreeWithin, SpellsTree}
 
 -- ---- languages that grow to one
 pub record Limit {A : Type 0} (F : ℕ → A → List ℕ → Type 0) (G : A → List ℕ → Type 0) : Type 0 where

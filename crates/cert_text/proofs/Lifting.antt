@@ -1,10 +1,10 @@
 -- From a part that is read to the whole: where the part fails the whole fails, and where it is read the whole is.
-use Rattle.std.proofs.Common.{◌≡◌, ℕ, zero, suc, List, [], ◌∷◌, ◌++◌, length, refl, sym, ap, subst, ◌∙◌}
-use Rattle.cert_text.specs.Languages.{NoDigit, GoesOn, Reads, StopsAt, Fails, Cat, Blank, Image, Times}
+use Rattle.std.proofs.Common.{◌≡◌, ℕ, List, [], ◌∷◌, ◌++◌, length, refl, sym, ap, subst, ◌∙◌}
+use Rattle.cert_text.specs.Languages.{NoDigit, Reads, StopsAt, Fails, Cat, Blank, Image}
 use Rattle.cert_text.specs.declared.bad_texts.Unread.{Unread}
 use Rattle.cert_text.specs.declared.bad_texts.Unread.TheVariants.{Memory, Bad}
 use Rattle.cert_text.specs.Failing.{Unreadable}
-use Rattle.cert_text.proofs.Joining.{StartsClear, HasOne, OneFront, SameFront, cat_reads, one_front-cat, cat_fails_first, cat_fails_second, clear-blank, has_one-blank, one_front-blank, blank_reads, blank_fails, blank_missing, no_digit-append}
+use Rattle.cert_text.proofs.Joining.{StartsClear, HasOne, OneFront, cat_reads, one_front-cat, cat_fails_first, cat_fails_second, clear-blank, has_one-blank, one_front-blank, blank_reads, blank_fails, blank_missing, no_digit-append}
 
 -- the last part of a whole is read in the middle of the bytes, and f makes the whole's value
 pub record Lift {A B : Type 0} (L : A → List ℕ → Type 0) (bytes : List ℕ) (M : B → List ℕ → Type 0) (middle : List ℕ) (f : B → A) : Type 0 where

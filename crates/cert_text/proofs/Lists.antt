@@ -1,11 +1,10 @@
 -- So many texts, one behind the other.
-use Rattle.std.proofs.Common.{◌≡◌, ℕ, zero, suc, ◌+◌, ◌-◌, ◌^◌, ◌<◌, ◌≤◌, min, List, [], ◌∷◌, ◌++◌, length, length-append, refl, sym, ap, subst, ◌∙◌, append-nil, append_assoc, arith}
-use Rattle.cert_text.specs.Languages.{NoDigit, GoesOn, Reads, StopsAt, Fails, Cat, Blank, Image, Times}
-use Rattle.cert_text.specs.Decimals.{decimal}
+use Rattle.std.proofs.Common.{◌≡◌, ℕ, zero, suc, ◌+◌, ◌^◌, ◌<◌, ◌≤◌, List, [], ◌∷◌, ◌++◌, length, length-append, refl, sym, ap, subst, ◌∙◌, append-nil, append_assoc, arith}
+use Rattle.cert_text.specs.Languages.{NoDigit, Reads, Fails, Cat, Blank, Times}
 use Rattle.cert_text.specs.Numbers.{Number, Any, IsCount, Counted}
 use Rattle.cert_text.specs.Counting.{BlankCount}
-use Rattle.cert_text.proofs.Joining.{StartsClear, HasOne, OneFront, SameFront, one_front-cat, same_fails, same_reads}
-use Rattle.cert_text.proofs.Lifting.{Lift, lift-then, lift-cat, lift-image, Regular, regular-cat, regular-blank, regular-image, first_fails, first_reads}
+use Rattle.cert_text.proofs.Joining.{StartsClear, OneFront, same_fails, same_reads}
+use Rattle.cert_text.proofs.Lifting.{Lift, lift-then, lift-image, Regular, regular-cat, regular-blank, regular-image, first_fails, first_reads}
 use Rattle.cert_text.proofs.Reaching.{one_front-number, has_one-number}
 
 pub reads_le : {A : Type 0} (L : A → List ℕ → Type 0) (bytes : List ℕ) (a : A) (rest : List ℕ) → Reads L bytes a rest → length rest ≤ length bytes

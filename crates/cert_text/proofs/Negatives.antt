@@ -1,11 +1,11 @@
 -- Numbers with a sign.
-use Rattle.std.proofs.Common.{◌≡◌, ℕ, zero, suc, ◌+◌, ◌-◌, ◌^◌, ◌<◌, ◌≤◌, true, List, [], ◌∷◌, ◌++◌, length, ℤ, pos, negsuc, neg_ℤ, refl, sym, ap, subst, ◌∙◌, append_assoc, append-nil, arith}
-use Rattle.cert_text.specs.Decimals.{is_digit, decimal, signed_decimal}
-use Rattle.cert_text.specs.Languages.{NoDigit, GoesOn, Reads, StopsAt, Fails}
+use Rattle.std.proofs.Common.{◌≡◌, ℕ, zero, suc, ◌-◌, ◌^◌, ◌≤◌, List, [], ◌∷◌, ◌++◌, ℤ, pos, negsuc, neg_ℤ, refl, sym, ap, ◌∙◌, append-nil, arith}
+use Rattle.cert_text.specs.Decimals.{decimal}
+use Rattle.cert_text.specs.Languages.{Reads, StopsAt, Fails}
 use Rattle.cert_text.specs.Numbers.{Number, Within, Signed, Signed128}
-use Rattle.cert_text.proofs.Digits.{digit_below, decimal_value, reading}
-use Rattle.cert_text.proofs.Joining.{OneFront, SameFront, HasOne, head_same, tail_same}
-use Rattle.cert_text.proofs.Reaching.{Head, decimal_head, one_decimal}
+use Rattle.cert_text.proofs.Digits.{digit_below}
+use Rattle.cert_text.proofs.Joining.{OneFront, HasOne, head_same, tail_same}
+use Rattle.cert_text.proofs.Reaching.{decimal_head, one_decimal}
 
 -- no digits begin with a minus
 no_minus : (n : ℕ) (x more : List ℕ) → decimal n ++ x ≡ 45 ∷ more → ⊥

@@ -1,5 +1,5 @@
 -- A certificate has one spelling.
-use Rattle.std.proofs.Common.{◌≡◌, ℕ, zero, suc, ◌+◌, ◌-◌, ◌^◌, ◌≤◌, ℤ, pos, negsuc, List, [], ◌∷◌, ◌++◌, length, map, refl, sym, ap, subst, ◌∙◌, append_assoc, arith}
+use Rattle.std.proofs.Common.{◌≡◌, ℕ, zero, suc, ◌-◌, ◌^◌, ℤ, pos, List, [], ◌∷◌, ◌++◌, length, map, refl, sym, ap, ◌∙◌}
 use Rattle.std.specs.Prelude.{codes}
 use Rattle.std.proofs.lemmas.List.{length-map}
 use Rattle.lin_base.specs.declared.sums.Lin.{Lin}
@@ -17,10 +17,10 @@ use Rattle.cert_text.specs.declared.kinds.NodeKind.TheVariants.{Case, Combine, C
 use Rattle.cert_text.specs.declared.kinds.RowKind.{RowKind}
 use Rattle.cert_text.specs.declared.kinds.RowKind.TheVariants.{Inst, Low}
 use Rattle.cert_text.specs.Decimals.{decimal, signed_decimal}
-use Rattle.cert_text.specs.Languages.{Cat, Blank, Image, Exactly, Times}
+use Rattle.cert_text.specs.Languages.{Cat, Blank, Exactly, Times}
 use Rattle.cert_text.specs.Numbers.{Number, Within, Any, Signed, Signed128, Counted}
-use Rattle.cert_text.specs.Sums.{Term, Terms, SpellsLin, lin_of}
-use Rattle.cert_text.specs.Grammar.{Index, Whole, Modulus, Sum, Multiple, RowParts, SpellsRow, row_word, NodeParts, Node, TreeWithin, SpellsTree, node_word, Spells, cert_of}
+use Rattle.cert_text.specs.Sums.{Terms, SpellsLin}
+use Rattle.cert_text.specs.Grammar.{Index, Whole, Modulus, Sum, Multiple, RowParts, SpellsRow, row_word, NodeParts, Node, TreeWithin, SpellsTree, node_word, Spells}
 use Rattle.cert_text.proofs.Lists.{length-times}
 
 -- ---- the one text that a language has for a value, where it has one

@@ -7,9 +7,9 @@ use Rattle.std.proofs.lemmas.List.Folds.{list_all-append}
 use Rattle.std.specs.List.{list_all}
 use Rattle.cert_text.specs.Decimals.{is_digit, decimal}
 use Rattle.cert_text.specs.Languages.{NoDigit, GoesOn, Reads, StopsAt, Fails}
-use Rattle.cert_text.specs.Numbers.{Number, Within, Any, Reaches}
-use Rattle.cert_text.proofs.Digits.{AllDigits, all_digits, reading, reading-append, decimal_value, front_value, begins, first_digit, decimal_digit, decimal_step, digit_below}
-use Rattle.cert_text.proofs.Joining.{OneFront, HasOne, SameFront, Fronts, within, beyond, fronts, no_digit_front, head_same, tail_same, drop_front}
+use Rattle.cert_text.specs.Numbers.{Number, Within, Reaches}
+use Rattle.cert_text.proofs.Digits.{AllDigits, all_digits, reading, reading-append, decimal_value, front_value, begins, first_digit, decimal_digit, decimal_step}
+use Rattle.cert_text.proofs.Joining.{OneFront, HasOne, Fronts, within, beyond, fronts, head_same, tail_same, drop_front}
 
 -- a decimal text has a first digit
 pub record Head (n : ℕ) : Type 0 where

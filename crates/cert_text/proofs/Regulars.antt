@@ -1,17 +1,16 @@
 -- The parts of rows and nodes are read in one way alone.
-use Rattle.std.proofs.Common.{◌≡◌, ℕ, ◌-◌, ◌^◌, ◌≤◌, ℤ, List, refl, arith}
-use Rattle.lin_base.specs.declared.sums.Lin.{Lin}
+use Rattle.std.proofs.Common.{◌-◌, ◌^◌, arith}
 use Rattle.cert_tree.specs.declared.certs.Row.{Row}
 use Rattle.cert_text.specs.declared.kinds.RowKind.{RowKind}
 use Rattle.cert_text.specs.declared.kinds.RowKind.TheVariants.{Inst, Low}
-use Rattle.cert_text.specs.Languages.{Cat, Blank, Image}
-use Rattle.cert_text.specs.Numbers.{Number, Within, Word32, Any, Signed, Signed128, Counted}
+use Rattle.cert_text.specs.Languages.{Cat, Blank}
+use Rattle.cert_text.specs.Numbers.{Number, Within, Word32, Signed, Signed128, Counted}
 use Rattle.cert_text.specs.Sums.{SpellsLin}
 use Rattle.cert_text.specs.Grammar.{Index, Whole, Modulus, Sum, Multiple, RowWord, RowParts, SpellsRow}
 use Rattle.cert_text.proofs.Reaching.{one_front-number, has_one-number}
 use Rattle.cert_text.proofs.Negatives.{one_front-signed, has_one-signed}
 use Rattle.cert_text.proofs.Rooms.{one_front-lin, has_one-lin}
-use Rattle.cert_text.proofs.Lifting.{Regular, regular-cat, regular-blank, regular-image}
+use Rattle.cert_text.proofs.Lifting.{Regular, regular-blank, regular-image}
 use Rattle.cert_text.proofs.Lists.{regular-counted}
 use Rattle.cert_text.proofs.Kinded.{regular-row_word}
 use Rattle.cert_text.proofs.Chains.{both}

@@ -1,13 +1,12 @@
 -- Linear sums: each unknown leaves room for those behind it.
-use Rattle.std.proofs.Common.{◌≡◌, ℕ, zero, suc, ◌+◌, ◌-◌, ◌^◌, ◌<◌, ◌≤◌, List, [], ◌∷◌, ◌++◌, length, length-append, ℤ, pos, negsuc, refl, sym, ap, subst, ◌∙◌, append_assoc, append-nil, arith}
-use Rattle.lin_base.specs.declared.sums.Lin.{Lin}
+use Rattle.std.proofs.Common.{◌≡◌, ℕ, zero, suc, ◌+◌, ◌-◌, ◌^◌, ◌<◌, ◌≤◌, List, [], ◌∷◌, ◌++◌, ℤ, refl, sym, ap, subst, ◌∙◌, append_assoc, append-nil, arith}
 use Rattle.cert_text.specs.Decimals.{decimal}
-use Rattle.cert_text.specs.Languages.{NoDigit, GoesOn, Reads, StopsAt, Fails, Cat, Blank, Image}
+use Rattle.cert_text.specs.Languages.{NoDigit, Reads, Fails, Cat, Blank}
 use Rattle.cert_text.specs.Numbers.{Number, Within, Any, Signed, Signed128}
 use Rattle.cert_text.specs.Sums.{Term, Terms, RoomTerms, SpellsLin, lin_of}
-use Rattle.cert_text.proofs.Joining.{StartsClear, HasOne, OneFront, SameFront, clear-blank, has_one-blank, one_front-blank, cat_fails_first, one_front-cat, same_fails, same_reads}
-use Rattle.cert_text.proofs.Lifting.{Lift, lift-self, lift-then, lift-cat, lift-image, clear-cat, one_front-image, has_one-image}
-use Rattle.cert_text.proofs.Reaching.{one_front-number, has_one-number}
+use Rattle.cert_text.proofs.Joining.{StartsClear, HasOne, OneFront, clear-blank, has_one-blank, one_front-blank, cat_fails_first, one_front-cat, same_fails, same_reads}
+use Rattle.cert_text.proofs.Lifting.{Lift, lift-then, lift-cat, lift-image, clear-cat, one_front-image}
+use Rattle.cert_text.proofs.Reaching.{one_front-number}
 use Rattle.cert_text.proofs.Negatives.{one_front-signed, has_one-signed}
 
 -- ---- one term

@@ -1,23 +1,21 @@
 -- Trees are read in one way alone.
-use Rattle.std.proofs.Common.{◌≡◌, ℕ, zero, suc, ℤ, pos, List, [], ◌∷◌, ◌++◌, refl, sym, ap, subst, ◌∙◌}
-use Rattle.lin_base.specs.declared.sums.Lin.{Lin}
+use Rattle.std.proofs.Common.{ℕ, zero, suc, List, ◌∷◌, ◌++◌, refl, sym, ap, subst, ◌∙◌}
 use Rattle.cert_tree.specs.declared.certs.Tree.{Tree}
 use Rattle.cert_tree.specs.declared.certs.Tree.TheVariants as node
 use Rattle.cert_text.specs.declared.kinds.NodeKind.{NodeKind}
 use Rattle.cert_text.specs.declared.kinds.NodeKind.TheVariants.{Case, Combine, Cut, Branch, Residues, Solve, Least, Clash}
 use Rattle.std.specs.Prelude.{codes}
-use Rattle.cert_text.specs.Decimals.{decimal}
-use Rattle.cert_text.specs.Languages.{NoDigit, Reads, Fails, Cat, Blank, Image, Times}
-use Rattle.cert_text.specs.Numbers.{Number, Within, Word32, Any, Counted}
-use Rattle.cert_text.specs.Grammar.{Index, Modulus, Sum, Multiple, NodeWord, NodeParts, Node, TreeWithin, SpellsTree}
-use Rattle.cert_text.proofs.Joining.{StartsClear, HasOne, OneFront, SameFront, clear-blank, one_front-blank, one_front-cat, same_fails, same_reads}
-use Rattle.cert_text.proofs.Lifting.{Lift, Regular, regular-blank, regular-image, clear-cat, one_front-image, has_one-image}
+use Rattle.cert_text.specs.Languages.{Cat, Blank, Image, Times}
+use Rattle.cert_text.specs.Numbers.{Number, Any, Counted}
+use Rattle.cert_text.specs.Grammar.{NodeWord, NodeParts, Node, TreeWithin, SpellsTree}
+use Rattle.cert_text.proofs.Joining.{StartsClear, HasOne, OneFront, clear-blank, one_front-blank, one_front-cat, same_fails, same_reads}
+use Rattle.cert_text.proofs.Lifting.{Lift, Regular, regular-blank, regular-image, clear-cat, one_front-image}
 use Rattle.cert_text.proofs.Lists.{split-times, regular-counted, regular-times, one_front-none, clear-none}
-use Rattle.cert_text.proofs.Reaching.{one_front-number, has_one-number}
+use Rattle.cert_text.proofs.Reaching.{one_front-number}
 use Rattle.cert_text.proofs.Kinded.{regular-node_word}
 use Rattle.cert_text.proofs.Regulars.{regular-index, regular-modulus, regular-sum, regular-multiples}
 use Rattle.cert_text.proofs.Chains.{both}
-use Rattle.cert_text.proofs.Levels.{Limit, limit-tree, from_node, to_node, raised, above, above_swap}
+use Rattle.cert_text.proofs.Levels.{limit-tree, from_node, to_node, raised, above, above_swap}
 
 -- as Regular, of a language that may be empty
 pub record Sure {A : Type 0} (L : A → List ℕ → Type 0) : Type 0 where

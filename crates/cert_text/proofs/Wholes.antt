@@ -1,15 +1,13 @@
 -- Certificates are read in one way alone.
-use Rattle.std.proofs.Common.{◌≡◌, ℕ, zero, suc, ◌+◌, ◌-◌, ◌<◌, ◌≤◌, Bool, true, false, List, [], ◌∷◌, ◌++◌, length, length-append, take, drop, refl, sym, ap, subst, ◌∙◌, append_assoc, append-nil, arith}
+use Rattle.std.proofs.Common.{◌≡◌, ℕ, ◌+◌, ◌<◌, Bool, true, false, List, [], ◌∷◌, ◌++◌, length, length-append, take, drop, refl, sym, ap, subst, ◌∙◌, append_assoc, append-nil, arith}
 use Rattle.std.specs.Prelude.{codes}
 use Rattle.std.proofs.lemmas.List.{take-append-drop}
 use Rattle.std.proofs.Math.Seq.{take-append_seam, drop-append_seam}
 use Rattle.cert_tree.specs.declared.certs.Cert.{Cert}
-use Rattle.cert_tree.specs.declared.certs.Row.{Row}
-use Rattle.cert_tree.specs.declared.certs.Tree.{Tree}
 use Rattle.cert_text.specs.Decimals.{is_digit}
-use Rattle.cert_text.specs.Languages.{NoDigit, GoesOn, Reads, StopsAt, Fails, Cat, Blank, Image, Exactly}
+use Rattle.cert_text.specs.Languages.{NoDigit, GoesOn, Reads, StopsAt, Fails, Blank, Exactly}
 use Rattle.cert_text.specs.Numbers.{Counted}
-use Rattle.cert_text.specs.Grammar.{SpellsRow, SpellsTree, Spells, cert_of}
+use Rattle.cert_text.specs.Grammar.{SpellsRow, Spells, cert_of}
 use Rattle.cert_text.specs.Parsing.{Begins, NoneBegins}
 use Rattle.cert_text.proofs.Lifting.{Regular, regular-image}
 use Rattle.cert_text.proofs.Lists.{regular-counted}

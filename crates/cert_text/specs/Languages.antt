@@ -1,5 +1,5 @@
 -- Languages: which texts spell which values; what it is to read one in front of the bytes, and where no spelling goes on.
-use Rattle.std.specs.Prelude.{◌≡◌, ℕ, zero, suc, false, List, [], ◌∷◌, ◌++◌, length, Option, Some, slice_get}
+use Rattle.std.specs.Prelude.{◌≡◌, ℕ, zero, suc, false, List, [], ◌∷◌, ◌++◌, length, Some, slice_get}
 use Rattle.cert_text.specs.Decimals.{is_digit}
 
 -- the first byte, where there is one, is no digit

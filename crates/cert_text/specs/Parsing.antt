@@ -1,7 +1,6 @@
 -- What parsing answers.
-use Rattle.std.specs.Prelude.{◌≡◌, ℕ, ◌+◌, ◌<◌, ◌≤◌, List, length, take, drop}
+use Rattle.std.specs.Prelude.{ℕ, ◌+◌, ◌<◌, ◌≤◌, List, length, take, drop}
 use Rattle.cert_tree.specs.declared.certs.Cert.{Cert}
-use Rattle.cert_text.specs.declared.certs.BadText.{BadText}
 use Rattle.cert_text.specs.declared.certs.TextError.{TextError}
 use Rattle.cert_text.specs.declared.certs.TextError.TheVariants.{Memory, BadText as Bad}
 use Rattle.cert_text.specs.Languages.{NoDigit, GoesOn}

@@ -1,4 +1,4 @@
-use Rattle.std.proofs.Common.{◌≡◌, arith}
+use Rattle.std.proofs.Common.{arith}
 use Rattle.std.proofs.lemmas.Result.{err_from_is_err_and, MatchResult-weaker}
 use Rattle.cert_text.specs.Numbers.{Number, Within}
 use Rattle.cert_text.proofs.Lifting.{no_blank, lift-blank}

@@ -1,6 +1,5 @@
-use Rattle.std.proofs.Common.{◌≡◌, ◌++◌, ◌∷◌, [], ◌+◌, ◌-◌, subst, sym, ap, ◌∙◌, arith}
 use Rattle.std.proofs.lemmas.Result.{err_from_is_err_and}
-use Rattle.cert_text.proofs.Rooms.{TermsSo, terms_more, terms_fail, terms_all}
+use Rattle.cert_text.proofs.Rooms.{terms_more, terms_fail, terms_all}
 use Rattle.cert_text.proofs.lins.terms.Goals as goal
 
 pub returns-in_err-next : goal.returns-in_err-next

@@ -1,4 +1,4 @@
-use Rattle.std.proofs.Common.{◌≡◌, ℕ, arith}
+use Rattle.std.proofs.Common.{arith}
 use Rattle.cert_text.proofs.Counts.{count_missing, count_first, count_stops, count_longer}
 use Rattle.cert_text.proofs.numbers.count.Goals as goal
 

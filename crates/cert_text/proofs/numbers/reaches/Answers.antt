@@ -1,4 +1,3 @@
-use Rattle.std.proofs.Common.{arith}
 use Rattle.std.proofs.lemmas.Bool.{leb-true, le-leb}
 use Rattle.cert_text.proofs.Windows.{widened_next, widened_yes, widened_no}
 use Rattle.cert_text.proofs.numbers.reaches.Goals as goal

@@ -1,6 +1,5 @@
 use Rattle.std.proofs.Common.{◌-◌, length}
-use Rattle.cert_text.specs.Languages.{Blank}
-use Rattle.cert_text.specs.Grammar.{Multiple, SpellsRow}
+use Rattle.cert_text.specs.Grammar.{Multiple}
 use Rattle.cert_text.proofs.Lists.{SomeSo}
 use Rattle.cert_text.proofs.parts.multiples.Given as goal
 

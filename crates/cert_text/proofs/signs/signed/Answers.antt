@@ -1,4 +1,3 @@
-use Rattle.std.proofs.Common.{◌≡◌, ◌^◌, ◌-◌}
 use Rattle.std.proofs.lemmas.Result.{err_from_is_err_and}
 use Rattle.cert_text.proofs.Negatives.{minus_fails, plain_fails}
 use Rattle.cert_text.proofs.signs.signed.Goals as goal

@@ -1,4 +1,4 @@
-use Rattle.std.proofs.Common.{◌≡◌, ◌∷◌, ◌++◌, get_or, take, drop, suc, ◌+◌, add-one, drop-cons, sym, ap, subst, ◌∙◌, arith}
+use Rattle.std.proofs.Common.{◌++◌, get_or, take, drop, suc, drop-cons, sym, ap, ◌∙◌}
 use Rattle.std.proofs.lemmas.List.{take-append-drop}
 use Rattle.cert_text.proofs.Choices.{exactly_stops, exactly_digit, take_whole}
 use Rattle.cert_text.proofs.words.exactly.Goals as goal

@@ -1,4 +1,4 @@
-use Rattle.std.proofs.Common.{◌≡◌, ◌+◌, map, subst, sym, arith}
+use Rattle.std.proofs.Common.{◌+◌, map, subst, sym, arith}
 use Rattle.std.proofs.lemmas.List.{length-map}
 use Rattle.cert_text.proofs.Choices.{Tried, tried_none, tried_more, tried_all, one_of_reads, word_at}
 use Rattle.cert_text.proofs.words.one_of.Goals as goal
