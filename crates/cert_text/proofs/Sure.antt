@@ -1,0 +1,127 @@
+-- Trees are read in one way alone.
+use Rattle.std.proofs.Common.{ℕ, zero, suc, List, ◌∷◌, ◌++◌, refl, sym, ap, subst, ◌∙◌}
+use Rattle.cert_tree.specs.declared.certs.Tree.{Tree}
+use Rattle.cert_tree.specs.declared.certs.Tree.TheVariants as node
+use Rattle.cert_text.specs.declared.kinds.NodeKind.{NodeKind}
+use Rattle.cert_text.specs.declared.kinds.NodeKind.TheVariants.{Case, Combine, Cut, Branch, Residues, Solve, Least, Clash}
+use Rattle.std.specs.Prelude.{codes}
+use Rattle.cert_text.specs.Languages.{Cat, Blank, Image, Times}
+use Rattle.cert_text.specs.Numbers.{Number, Any, Counted}
+use Rattle.cert_text.specs.Grammar.{NodeWord, NodeParts, Node, TreeWithin, SpellsTree}
+use Rattle.cert_text.proofs.Joining.{StartsClear, HasOne, OneFront, clear-blank, one_front-blank, one_front-cat, same_fails, same_reads}
+use Rattle.cert_text.proofs.Lifting.{Lift, Regular, regular-blank, regular-image, clear-cat, one_front-image}
+use Rattle.cert_text.proofs.Lists.{split-times, regular-counted, regular-times, one_front-none, clear-none}
+use Rattle.cert_text.proofs.Reaching.{one_front-number}
+use Rattle.cert_text.proofs.Kinded.{regular-node_word}
+use Rattle.cert_text.proofs.Regulars.{regular-index, regular-modulus, regular-sum, regular-multiples}
+use Rattle.cert_text.proofs.Chains.{both}
+use Rattle.cert_text.proofs.Levels.{limit-tree, from_node, to_node, raised, above, above_swap}
+
+-- as Regular, of a language that may be empty
+pub record Sure {A : Type 0} (L : A → List ℕ → Type 0) : Type 0 where
+  pub one : OneFront L
+  pub clear : StartsClear L
+
+sure : {A : Type 0} {L : A → List ℕ → Type 0} → Regular L → Sure L
+sure r = record { one = r.one; clear = r.clear }
+
+sure-cat : {A B : Type 0} {L : A → List ℕ → Type 0} {M : A → B → List ℕ → Type 0} → Sure L → ((a : A) → Sure (M a)) → Sure (Cat L M)
+sure-cat {L = L} {M = M} l m = record { one = one_front-cat L M l.one (λ a. (m a).one) (λ a. (m a).clear); clear = clear-cat L M l.clear (λ a. (m a).clear) }
+
+sure-image : {A B : Type 0} (f : A → B) (L : A → List ℕ → Type 0) → Sure L → Sure (Image f L)
+sure-image f L l = record { one = one_front-image f L l.one; clear = λ b t s. l.clear s.from t s.spelled }
+
+sure-blank : {A : Type 0} (L : A → List ℕ → Type 0) → OneFront L → Sure (Blank L)
+sure-blank L one = record { one = one_front-blank L one; clear = clear-blank L }
+
+sure-times : {A : Type 0} (L : A → List ℕ → Type 0) → Sure L → (n : ℕ) → Sure (Times L n)
+sure-times L l zero = record { one = one_front-none L; clear = clear-none L }
+sure-times {A} L l (suc n) =
+    let c : Sure (Cat L (λ y. Times L n)) = sure-cat l (λ y. sure-times L l n) in
+    record {
+      one = λ a b t u x y s r h d e.
+          let p = split-times L n a t s in
+          let q = split-times L n b u r in
+          let same = c.one (p.first, p.more) (q.first, q.more) t u x y p.spelled q.spelled h d e in
+          record { value = p.is ∙ ap (λ (z : A × List A). z.0 ∷ z.1) same.value ∙ sym q.is; text = same.text; rest = same.rest };
+      clear = λ a t s. let p = split-times L n a t s in c.clear (p.first, p.more) t p.spelled;
+    }
+
+sure-counted : {A : Type 0} (L : A → List ℕ → Type 0) → Sure L → Sure (Counted L)
+sure-counted {A} L l =
+    sure-image (λ (p : ℕ × List A). p.1) (Cat (Blank (Number Any)) (Times L)) (sure-cat (sure-blank (Number Any) (one_front-number Any)) (sure-times L l))
+
+-- ---- nodes
+module _ (L : Tree → List ℕ → Type 0) (one : OneFront L) where
+  abbrev child : Sure (Blank L)
+  child = sure-blank L one
+
+  sure-parts : (kind : NodeKind) → Sure (NodeParts L kind)
+  sure-parts Case = sure-image _ _ (sure-cat (sure regular-index) (λ clause. sure-counted (Blank L) child))
+  sure-parts Combine = sure-image _ _ (sure-cat (sure regular-multiples) (λ list. child))
+  sure-parts Cut = sure-image _ _ (sure-cat (sure regular-index) (λ fact. child))
+  sure-parts Branch = sure-image _ _ (sure-cat (sure regular-sum) (λ t. sure-cat child (λ left. child)))
+  sure-parts Residues = sure-image _ _ (sure-cat (sure regular-modulus) (λ m. sure-cat (sure regular-sum) (λ t. sure-times (Blank L) child m)))
+  sure-parts Solve = sure-image _ _ (sure-cat (sure regular-index) (λ fact. sure-cat (sure regular-index) (λ p. child)))
+  sure-parts Least = sure-image _ _ (sure-cat (sure regular-index) (λ p. sure-counted (Blank L) child))
+  sure-parts Clash = sure-image _ _ (sure regular-index)
+
+  sure-node : Sure (Node L)
+  sure-node = sure-image (λ (p : NodeKind × Tree). p.1) (Cat NodeWord (NodeParts L)) (sure-cat (sure regular-node_word) sure-parts)
+
+one_front-within : (k : ℕ) → OneFront (TreeWithin k)
+one_front-within zero a b t u x y s r h d e = absurd s
+one_front-within (suc k) a b t u x y s r h d e = (sure-node (TreeWithin k) (one_front-within k)).one a b t u x y s r h d e
+
+one_front-tree : OneFront SpellsTree
+one_front-tree a b t u x y s r h d e =
+    let j = s.levels in
+    let k = r.levels in
+    one_front-within (above k j) a b t u x y (raised TreeWithin SpellsTree limit-tree k j a t s.within)
+    (subst (λ n. TreeWithin n b u) (above_swap j k) (raised TreeWithin SpellsTree limit-tree j k b u r.within)) h d e
+
+clear-tree : StartsClear SpellsTree
+clear-tree a t s = (sure-node SpellsTree one_front-tree).clear a t (to_node a t s)
+
+has_one-tree : HasOne SpellsTree
+has_one-tree =
+    let n = regular-index.some in
+    record {
+      value = node.Clash n.value;
+      text = codes "clash" ++ n.text;
+      spelled = from_node (node.Clash n.value) (codes "clash" ++ n.text) (record {
+        from = (Clash, node.Clash n.value);
+        is = refl;
+        spelled = record { first = codes "clash"; second = n.text; first_spelled = refl; second_spelled = record { from = n.value; is = refl; spelled = n.spelled }; joined = refl };
+      });
+    }
+
+pub regular-tree : Regular SpellsTree
+regular-tree = record { one = one_front-tree; clear = clear-tree; some = has_one-tree }
+
+pub regular-blank_tree : Regular (Blank SpellsTree)
+regular-blank_tree = regular-blank SpellsTree one_front-tree has_one-tree
+
+pub regular-some_trees : Regular (Counted (Blank SpellsTree))
+regular-some_trees = regular-counted (Blank SpellsTree) regular-blank_tree
+
+pub regular-times_trees : (n : ℕ) → Regular (Times (Blank SpellsTree) n)
+regular-times_trees n = regular-times (Blank SpellsTree) regular-blank_tree n
+
+-- no modulus needs a child that has no text
+pub regular-node_parts : (kind : NodeKind) → Regular (NodeParts SpellsTree kind)
+regular-node_parts Case = regular-image _ _ (both regular-index (λ clause. regular-some_trees))
+regular-node_parts Combine = regular-image _ _ (both regular-multiples (λ list. regular-blank_tree))
+regular-node_parts Cut = regular-image _ _ (both regular-index (λ fact. regular-blank_tree))
+regular-node_parts Branch = regular-image _ _ (both regular-sum (λ t. both regular-blank_tree (λ left. regular-blank_tree)))
+regular-node_parts Residues = regular-image _ _ (both regular-modulus (λ m. both regular-sum (λ t. regular-times_trees m)))
+regular-node_parts Solve = regular-image _ _ (both regular-index (λ fact. both regular-index (λ p. regular-blank_tree)))
+regular-node_parts Least = regular-image _ _ (both regular-index (λ p. regular-some_trees))
+regular-node_parts Clash = regular-image _ _ regular-index
+
+-- from a tree to its node
+pub tree_node : (bytes : List ℕ) → Lift SpellsTree bytes (Node SpellsTree) bytes (λ (a : Tree). a)
+tree_node bytes = record {
+  fails = λ left f. same_fails (Node SpellsTree) SpellsTree (λ a t s. (a, from_node a t s)) (λ a t s. (a, to_node a t s)) bytes left f;
+  reads = λ a rest r. same_reads (Node SpellsTree) SpellsTree a a (from_node a) bytes rest r;
+}

@@ -1,0 +1,21 @@
+//! Laws of spellings.
+
+ghost use Rattle.std.specs.Prelude.{◌≡◌, ℕ, List, ◌∷◌, ◌++◌, true};
+ghost use Rattle.cert_tree.specs.declared.certs.Cert.{Cert};
+ghost use Rattle.cert_text.specs.Decimals.{is_digit};
+ghost use Rattle.cert_text.specs.Grammar.{Spells};
+
+/// Where the spelling of one certificate is a prefix of another's, a digit follows it there.
+pub fn a_digit_follows()
+    ensures { (a b : Cert) (text : List ℕ) (next : ℕ) (more : List ℕ) → Spells a text → Spells b (text ++ next ∷ more) → is_digit next ≡ true }
+{}
+
+/// Bytes that spell a certificate spell no other one.
+pub fn one_certificate()
+    ensures { (a b : Cert) (text : List ℕ) → Spells a text → Spells b text → a ≡ b }
+{}
+
+/// Two spellings of one certificate are equal.
+pub fn one_spelling()
+    ensures { (a : Cert) (text other : List ℕ) → Spells a text → Spells a other → text ≡ other }
+{}

@@ -1,0 +1,117 @@
+//! Parts of rows and nodes, each behind a blank.
+
+ghost use Rattle.std.specs.Prelude.{◌≡◌, ℕ, ◌<◌, ◌≤◌, MatchResult};
+ghost use Rattle.cert_text.specs.Languages.{Reads, Fails, Blank};
+ghost use Rattle.cert_text.specs.Numbers.{Number, Word32, Any, IsCount, Counted};
+ghost use Rattle.cert_text.specs.Failing.{Unreadable};
+ghost use Rattle.cert_text.specs.Counting.{BlankCount};
+ghost use Rattle.cert_text.specs.Grammar.{Index, Whole, Sum, Multiple, SpellsRow, RowParts};
+ghost use Rattle.cert_text.specs.declared.kinds.RowKind.TheVariants as kind;
+
+use crate::bad_texts::{Bad, Unread};
+use crate::kinds::{RowKind, row_kind};
+use crate::lins::{blank_signed, lin};
+use crate::numbers::{count, word32};
+use crate::words::blank;
+use cert_tree::Row;
+use lin_base::Lin;
+use sqlite_items::Items;
+use std::alloc::Global;
+
+/// A blank and behind it a `u32`, and what follows. Bad at the first byte with which none goes on.
+pub fn index(text: &[u8]) -> Result<(u32, &[u8]), Bad>
+    ensures { MatchResult result (λ f. Reads Index text.now f.0 f.1.now) (λ e. Fails Index text.now e.left) }
+{
+    word32(blank(text)?)
+}
+
+/// A blank and behind it a count of any size, and what follows. Each count past the largest `u128` is read as that one.
+/// Bad at the first byte with which no count goes on.
+pub fn blank_count(text: &[u8]) -> Result<(u128, &[u8]), Bad>
+    ensures { MatchResult result (λ f. BlankCount text.now f.0 f.1.now) (λ e. Fails (Blank (Number Any)) text.now e.left) }
+{
+    count(blank(text)?)
+}
+
+/// A blank and behind it a sum, and what follows. Bad at the first byte with which none goes on.
+pub fn blank_lin(alloc: Global, text: &[u8]) -> Result<(Lin, &[u8]), Unread>
+    ensures { MatchResult result (λ f. Reads Sum text.now f.0 f.1.now) (Unreadable Sum text.now) }
+{
+    lin(alloc, blank(text)?)
+}
+
+// A fact's number and its multiplier.
+fn multiple(text: &[u8]) -> Result<((u32, i128), &[u8]), Bad>
+    ensures { MatchResult result (λ f. Reads Multiple text.now f.0 f.1.now) (λ e. Fails Multiple text.now e.left) }
+{
+    let (fact, rest) = index(text)?;
+    let (k, rest) = blank_signed(rest, 0)?;
+    Ok(((fact, k), rest))
+}
+
+/// The facts' numbers with their multipliers, behind a blank and their count.
+pub fn multiples(alloc: Global, text: &[u8]) -> Result<(Items<(u32, i128)>, &[u8]), Unread>
+    ensures { MatchResult result (λ f. Reads (Counted Multiple) text.now f.0 f.1.now) (Unreadable (Counted Multiple) text.now) }
+{
+    let (count, mut rest) = blank_count(text)?;
+    let mut list = Items::new(alloc);
+    while (list.len() as u128) < count {
+        let (next, more) = multiple(rest)?;
+        list.push(next)?;
+        rest = more;
+    }
+    Ok((list, rest))
+}
+
+// What stands behind `inst`.
+fn inst(alloc: Global, text: &[u8]) -> Result<(Row, &[u8]), Unread>
+    ensures { MatchResult result (λ f. Reads (RowParts kind.Inst) text.now f.0 f.1.now) (Unreadable (RowParts kind.Inst) text.now) }
+{
+    let (clause, rest) = index(text)?;
+    let (x, rest) = index(rest)?;
+    let (a, rest) = blank_signed(rest, 0)?;
+    let (t, rest) = blank_lin(alloc, rest)?;
+    Ok((Row::Inst { clause, x, a, t }, rest))
+}
+
+// What stands behind `low`.
+fn low(text: &[u8]) -> Result<(Row, &[u8]), Unread>
+    ensures { MatchResult result (λ f. Reads (RowParts kind.Low) text.now f.0 f.1.now) (Unreadable (RowParts kind.Low) text.now) }
+{
+    let (clause, rest) = index(text)?;
+    let (x, rest) = index(rest)?;
+    let (j, rest) = blank_signed(rest, 0)?;
+    Ok((Row::Low { clause, x, j }, rest))
+}
+
+/// The row in front of the bytes, and what follows. Bad at the first byte with which none goes on.
+pub fn row(alloc: Global, text: &[u8]) -> Result<(Row, &[u8]), Unread>
+    ensures { MatchResult result (λ f. Reads SpellsRow text.now f.0 f.1.now) (Unreadable SpellsRow text.now) }
+{
+    let (kind, rest) = row_kind(text)?;
+    match kind {
+        RowKind::Inst => inst(alloc, rest),
+        RowKind::Low => low(rest),
+    }
+}
+
+// A blank and behind it a row.
+fn blank_row(alloc: Global, text: &[u8]) -> Result<(Row, &[u8]), Unread>
+    ensures { MatchResult result (λ f. Reads (Blank SpellsRow) text.now f.0 f.1.now) (Unreadable (Blank SpellsRow) text.now) }
+{
+    row(alloc, blank(text)?)
+}
+
+/// The rows, behind a blank and their count.
+pub fn rows(alloc: Global, text: &[u8]) -> Result<(Items<Row>, &[u8]), Unread>
+    ensures { MatchResult result (λ f. Reads (Counted (Blank SpellsRow)) text.now f.0 f.1.now) (Unreadable (Counted (Blank SpellsRow)) text.now) }
+{
+    let (count, mut rest) = blank_count(text)?;
+    let mut rows = Items::new(alloc);
+    while (rows.len() as u128) < count {
+        let (next, more) = blank_row(alloc, rest)?;
+        rows.push(next)?;
+        rest = more;
+    }
+    Ok((rows, rest))
+}

@@ -1,0 +1,85 @@
+use crate::{BadText, TextError, parse_cert};
+use cert_tree::Tree;
+use std::alloc::Global;
+
+/// How many bytes the certificate in front takes.
+fn taken(alloc: Global, text: &str) -> Result<u64, TextError> {
+    let (_cert, taken) = parse_cert(alloc, text.as_bytes())?;
+    Ok(taken)
+}
+
+/// Where no spelling goes on.
+fn bad_at(alloc: Global, bytes: &[u8]) -> Option<u64> {
+    match parse_cert(alloc, bytes) {
+        Err(TextError::BadText(BadText { at })) => Some(at),
+        _ => None,
+    }
+}
+
+#[test]
+fn reads_certificates(rt: HostRuntime) -> Result<(), TextError> {
+    let alloc = rt.alloc();
+    for (text, length) in [
+        ("cert 0 clash 7 and so on", 14),
+        ("cert 0 case 0 1 clash 0", 23),
+        ("cert 1 inst 0 1 1 1 0 1 1 case 1 1 clash 0", 42),
+        ("cert 1 low 4294967295 0 -1 least 0 2 clash 0 clash 1", 52),
+        ("cert 0 residues 2 1 0 -1 5 clash 0 clash 0", 42),
+        ("cert 0 branch 2 0 1 1 -1 0 solve 0 1 clash 0 clash 2", 52),
+        ("cert 0 combine 0 clash 0", 24),
+    ] {
+        assert_eq!(rt; taken(alloc, text)?, length, "{text}");
+    }
+    Ok(())
+}
+
+/// The numbers of a node Solve over a Clash.
+fn solve_over_clash(tree: &Tree) -> Option<(u32, u32, u32)> {
+    match tree {
+        Tree::Solve { fact, p, child } => match child.get() {
+            Tree::Clash { fact: last } => Some((*fact, *p, *last)),
+            _ => None,
+        },
+        _ => None,
+    }
+}
+
+#[test]
+fn builds_the_tree(rt: HostRuntime) -> Result<(), TextError> {
+    let (cert, taken) = parse_cert(rt.alloc(), b"cert 0 solve 3 14 clash 15")?;
+    assert_eq!(rt; taken, 26);
+    assert!(rt; cert.rows.is_empty());
+    assert_eq!(rt; solve_over_clash(&cert.tree), Some((3, 14, 15)));
+    Ok(())
+}
+
+#[test]
+fn tells_where_a_text_is_bad(rt: HostRuntime) {
+    let alloc = rt.alloc();
+    for (text, at) in [
+        ("cert 0 clash 07", Some(14)),
+        ("cert  0 clash 0", Some(5)),
+        ("cert 0 clash 0 ", None),
+        ("cert 00 clash 0", Some(6)),
+        ("cert 0 clasp 0", Some(11)),
+        ("cert 0 clash 4294967296", Some(22)),
+        ("cert 0 combine 1 0 -0 clash 0", Some(20)),
+        ("cert 0 residues -1 0 0", Some(16)),
+        ("cert 0 branch 1 0 0 0 clash 0 clash 0", Some(18)),
+        ("cert 0 branch 2 1 1 1 1 0 clash 0 clash 0", Some(21)),
+        ("cert 0 case 0 4000000000", Some(24)),
+        ("cert 0 case 0 1 clash 0 clash 1", None),
+    ] {
+        assert_eq!(rt; bad_at(alloc, text.as_bytes()), at, "{text}");
+    }
+}
+
+#[test]
+fn tells_where_a_cut_text_ends(rt: HostRuntime) {
+    let text =
+        b"cert 0 case 0 1 combine 1 0 1 cut 1 combine 1 0 -1 cut 3 combine 2 2 1 4 1 clash 5";
+    for length in 0..text.len() {
+        assert_eq!(rt; bad_at(rt.alloc(), &text[..length]), Some(length as u64));
+    }
+    assert_eq!(rt; bad_at(rt.alloc(), text), None);
+}
