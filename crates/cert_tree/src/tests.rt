@@ -1,4 +1,4 @@
-use crate::{Cert, Row, Tree, check_unsat};
+use crate::{Cert, Row, Tree, check_sat, check_unsat};
 use lin_base::{Fact, Lin, Pool, is_pool};
 use sqlite_items::{Boxed, Items};
 use std::alloc::{AllocError, Global};
@@ -113,6 +113,155 @@ fn checks_cuts_of_two_bounds(rt: HostRuntime) -> Result<(), AllocError> {
             stands,
             "times {multiplier}"
         );
+    }
+    Ok(())
+}
+
+/// Some number is greater than a given one: the clause at `y = x + 1` is false.
+#[test]
+fn checks_an_instance(rt: HostRuntime) -> Result<(), AllocError> {
+    let alloc = rt.alloc();
+    let below = Fact::AtMostZero(sum(alloc, &[(0, -1), (1, 1)], 0)?);
+    let pool = unit_pool(alloc, 1, vec![in alloc; below]?)?;
+    assert!(rt; is_pool(&pool));
+    for (x, constant, stands) in [(1, 1, true), (1, 0, false), (0, 1, false)] {
+        let t = sum(alloc, &[(0, 1)], constant)?;
+        let mut cert = of_tree(alloc, case(alloc, 1, Tree::Clash { fact: 0 })?);
+        cert.rows.push(Row::Inst {
+            clause: 0,
+            x,
+            a: 1,
+            t,
+        })?;
+        assert_eq!(rt;
+            check_unsat(alloc, &pool, &cert)?,
+            stands,
+            "x {x}, plus {constant}"
+        );
+    }
+    Ok(())
+}
+
+/// No bound holds for all numbers: far down the literal is left out.
+#[test]
+fn checks_a_clause_far_down(rt: HostRuntime) -> Result<(), AllocError> {
+    let alloc = rt.alloc();
+    for (coefficient, stands) in [(-1, true), (1, false)] {
+        let bound = Fact::AtMostZero(sum(alloc, &[(0, coefficient)], 1)?);
+        let pool = unit_pool(alloc, 0, vec![in alloc; bound]?)?;
+        assert!(rt; is_pool(&pool));
+        let tree = Tree::Case {
+            clause: 1,
+            children: Items::new(alloc),
+        };
+        let mut cert = of_tree(alloc, tree);
+        cert.rows.push(Row::Low {
+            clause: 0,
+            x: 0,
+            j: 0,
+        })?;
+        assert_eq!(rt; check_unsat(alloc, &pool, &cert)?, stands, "{coefficient}");
+    }
+    Ok(())
+}
+
+/// As many leaves at one fact.
+fn clashes(alloc: Global, fact: u32, count: usize) -> Result<Items<Tree>, AllocError> {
+    let mut leaves = Items::new(alloc);
+    for _ in 0..count {
+        leaves.push(Tree::Clash { fact })?;
+    }
+    Ok(leaves)
+}
+
+/// `2x = 1` has no integer `x`: at the only test point 2 doesn't divide 1.
+#[test]
+fn checks_the_test_points_of_an_equation(rt: HostRuntime) -> Result<(), AllocError> {
+    let alloc = rt.alloc();
+    let pool = unit_pool(
+        alloc,
+        1,
+        vec![in alloc; Fact::Zero(sum(alloc, &[(0, 2)], -1)?)]?,
+    )?;
+    assert!(rt; is_pool(&pool));
+    for (count, stands) in [(1, true), (0, false), (2, false)] {
+        let least = Tree::Least {
+            p: 0,
+            children: clashes(alloc, 1, count)?,
+        };
+        let cert = of_tree(alloc, case(alloc, 0, least)?);
+        assert_eq!(rt; check_unsat(alloc, &pool, &cert)?, stands, "{count} points");
+    }
+    Ok(())
+}
+
+/// `-3x + 1 <= 0` has the test points 3x = 1, 2 and 3, of which the last is a number; `3x - 2 <= 0` is false there.
+#[test]
+fn checks_the_test_points_of_a_bound(rt: HostRuntime) -> Result<(), AllocError> {
+    let alloc = rt.alloc();
+    let low = Fact::AtMostZero(sum(alloc, &[(0, -3)], 1)?);
+    let high = Fact::AtMostZero(sum(alloc, &[(0, 3)], -2)?);
+    let pool = unit_pool(alloc, 1, vec![in alloc; low, high]?)?;
+    assert!(rt; is_pool(&pool));
+    for (last, stands) in [(1, true), (2, false)] {
+        let mut children = clashes(alloc, 2, 2)?;
+        children.push(Tree::Clash { fact: last })?;
+        let least = Tree::Least { p: 0, children };
+        let cert = of_tree(alloc, case(alloc, 0, case(alloc, 1, least)?)?);
+        assert_eq!(rt; check_unsat(alloc, &pool, &cert)?, stands, "last at {last}");
+    }
+    Ok(())
+}
+
+/// 3 is a value at which `3 <= u` holds, and 2 is none.
+#[test]
+fn checks_values(rt: HostRuntime) -> Result<(), AllocError> {
+    let alloc = rt.alloc();
+    let bound = Fact::AtMostZero(sum(alloc, &[(0, -1)], 3)?);
+    let pool = unit_pool(alloc, 1, vec![in alloc; bound]?)?;
+    assert!(rt; is_pool(&pool));
+    for (value, holds) in [(3, true), (2, false)] {
+        assert_eq!(rt; check_sat(alloc, &pool, &[value])?, holds, "{value}");
+    }
+    assert_eq!(rt; check_sat(alloc, &pool, &[])?, false);
+    Ok(())
+}
+
+/// Every integer `x` is at most the value, or greater than the number: so where the value isn't less.
+#[test]
+fn checks_values_for_all_numbers(rt: HostRuntime) -> Result<(), AllocError> {
+    let alloc = rt.alloc();
+    let mut clause = Items::new(alloc);
+    clause.push(Fact::AtMostZero(sum(alloc, &[(0, -1), (1, 1)], 0)?))?;
+    clause.push(Fact::AtMostZero(sum(alloc, &[(1, -1)], 6)?))?;
+    let mut clauses = Items::new(alloc);
+    clauses.push(clause)?;
+    let pool = Pool { params: 1, clauses };
+    assert!(rt; is_pool(&pool));
+    for (value, holds) in [(5, true), (4, false)] {
+        assert_eq!(rt; check_sat(alloc, &pool, &[value])?, holds, "{value}");
+    }
+    Ok(())
+}
+
+/// `2x = 1` has no integer `x`: where it is solved, 2 doesn't divide 1.
+#[test]
+fn checks_the_solution_of_an_equation(rt: HostRuntime) -> Result<(), AllocError> {
+    let alloc = rt.alloc();
+    let pool = unit_pool(
+        alloc,
+        1,
+        vec![in alloc; Fact::Zero(sum(alloc, &[(0, 2)], -1)?)]?,
+    )?;
+    assert!(rt; is_pool(&pool));
+    for (fact, stands) in [(1, true), (0, false)] {
+        let solve = Tree::Solve {
+            fact: 0,
+            p: 0,
+            child: Boxed::new(alloc, Tree::Clash { fact })?,
+        };
+        let cert = of_tree(alloc, case(alloc, 0, solve)?);
+        assert_eq!(rt; check_unsat(alloc, &pool, &cert)?, stands, "clash {fact}");
     }
     Ok(())
 }
