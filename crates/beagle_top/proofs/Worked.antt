@@ -8,7 +8,7 @@ use Rattle.beagle_top.specs.Texts.{refutation}
 
 -- `$less(3,2)` as the one axiom
 pub row-refutation : refutation 0 (Less (pos 3) (pos 2))
-  ≡ codes "% SZS status Unsatisfiable for stdin\nderivation 1 abstraction\n0 input 0 : (3 + 1) <= 2\n1 close 0 cert 0 case 0 1 clash 0 : $false\nend\n"
+    ≡ codes "% SZS status Unsatisfiable for stdin\nderivation 1 abstraction\n0 input 0 : (3 + 1) <= 2\n1 close 0 cert 0 case 0 1 clash 0 : $false\nend\n"
 row-refutation = refl
 
 pub row-sign : numeral_value (codes "+02") ≡ pos 2
