@@ -43,16 +43,25 @@ pub(crate) fn problem(
     })
 }
 
-// the premise ! [X] : (p(X) <=> ? [Y] : Y < X), and the conjecture p(c)
-fn bounded(alloc: Global) -> Result<Problem, AllocError> {
-    let x = Variable::abstraction(0);
+// ? [Y] : Y < X, where Y is the variable 1
+fn bound_below(alloc: Global, x: Variable) -> Result<Formula, AllocError> {
     let y = Variable::abstraction(1);
     let less = Formula::Less(Term::Var(y), Term::Var(x));
-    let some = Formula::for_some(alloc, Items::from_slice(alloc, &[y])?, less)?;
-    let iff = Formula::equivalence(alloc, Formula::Atom(apply(alloc, 0, Term::Var(x))?), some)?;
-    let premise = Formula::for_all(alloc, Items::from_slice(alloc, &[x])?, iff)?;
+    Formula::for_some(alloc, Items::from_slice(alloc, &[y])?, less)
+}
+
+// ! [X] : (p(X) <=> ? [Y] : Y < X)
+fn bounded_premise(alloc: Global) -> Result<Formula, AllocError> {
+    let x = Variable::abstraction(0);
+    let atom = Formula::Atom(apply(alloc, 0, Term::Var(x))?);
+    let iff = Formula::equivalence(alloc, atom, bound_below(alloc, x)?)?;
+    Formula::for_all(alloc, Items::from_slice(alloc, &[x])?, iff)
+}
+
+// the premise ! [X] : (p(X) <=> ? [Y] : Y < X), and the conjecture p(c)
+fn bounded(alloc: Global) -> Result<Problem, AllocError> {
     let conjecture = Formula::Atom(apply(alloc, 0, Term::App(1, Items::new(alloc)))?);
-    problem(alloc, premise, Some(conjecture))
+    problem(alloc, bounded_premise(alloc)?, Some(conjecture))
 }
 
 // `length` conjunctions of q and r, joined by `|`
