@@ -16,3 +16,6 @@ pub mod Sure
 pub mod Wholes
 pub mod Ones
 pub mod Adding
+pub mod Ascending
+pub mod Printed
+pub mod Conditions

@@ -8,3 +8,4 @@ pub mod Places
 pub mod Counting
 pub mod Parsing
 pub mod Printing
+pub mod Spelled

@@ -1,18 +1,22 @@
 //! The text of certificates.
 
-ghost use Rattle.std.specs.Prelude.{◌≡◌, MatchResult, IfOk};
+ghost use Rattle.std.specs.Prelude.{◌≡◌, MatchResult, IsTrue, IfOk, OnOk};
 ghost use Rattle.cert_text.specs.Languages.{Reads};
 ghost use Rattle.cert_text.specs.Failing.{Unreadable};
 ghost use Rattle.cert_text.specs.Grammar.{Spells};
+ghost use Rattle.cert_text.specs.Printing.{Adds};
+ghost use Rattle.cert_text.specs.Spelled.{is_spelled};
 ghost use Rattle.cert_text.specs.Parsing.{Begins, WhereBad};
 ghost use Rattle.cert_text.specs.declared.certs.TextError.TheVariants as text;
 
 use crate::bad_texts::Unread;
 use crate::parts::rows;
+use crate::printing::{push, push_rows};
+use crate::tree_printing::push_blank_tree;
 use crate::trees::blank_tree;
 use crate::words::exactly;
 use cert_tree::Cert;
-use std::alloc::Global;
+use std::alloc::{AllocError, Global};
 use thiserror::Error;
 
 /// No spelling begins the bytes.
@@ -57,4 +61,24 @@ pub fn parse_cert(alloc: Global, bytes: &[u8]) -> Result<(Cert, u64), TextError>
             at: (bytes.len() - bad.left) as u64,
         })),
     }
+}
+
+/// Puts a certificate behind the text.
+pub fn push_cert(alloc: Global, text: &mut Vec<u8>, cert: &Cert) -> Result<(), AllocError>
+    requires { IsTrue (is_spelled cert.now) }
+    ensures { OnOk result (Adds Spells cert.now text.old.items text.new.items) }
+{
+    push(text, b"cert")?;
+    push_rows(alloc, text, cert.rows.as_slice())?;
+    push_blank_tree(alloc, text, &cert.tree)
+}
+
+/// The spelling of a certificate whose sums are sums and whose nodes `residues` have as many children as their modulus says.
+pub fn print_cert(alloc: Global, cert: &Cert) -> Result<Vec<u8>, AllocError>
+    requires { IsTrue (is_spelled cert.now) }
+    ensures { IfOk result (λ text. Spells cert.now text.items) }
+{
+    let mut text = Vec::new(alloc);
+    push_cert(alloc, &mut text, cert)?;
+    Ok(text)
 }

@@ -1,9 +1,10 @@
 //! Laws of spellings.
 
-ghost use Rattle.std.specs.Prelude.{◌≡◌, ℕ, List, ◌∷◌, ◌++◌, true};
+ghost use Rattle.std.specs.Prelude.{◌≡◌, ℕ, List, ◌∷◌, ◌++◌, true, IsTrue};
 ghost use Rattle.cert_tree.specs.declared.certs.Cert.{Cert};
 ghost use Rattle.cert_text.specs.Decimals.{is_digit};
 ghost use Rattle.cert_text.specs.Grammar.{Spells};
+ghost use Rattle.cert_text.specs.Spelled.{is_spelled};
 
 /// Where the spelling of one certificate is a prefix of another's, a digit follows it there.
 pub fn a_digit_follows()
@@ -18,4 +19,9 @@ pub fn one_certificate()
 /// Two spellings of one certificate are equal.
 pub fn one_spelling()
     ensures { (a : Cert) (text other : List ℕ) → Spells a text → Spells a other → text ≡ other }
+{}
+
+/// A certificate that has a spelling meets the condition of printing: no other one has a spelling.
+pub fn no_other_is_spelled()
+    ensures { (a : Cert) (text : List ℕ) → Spells a text → IsTrue (is_spelled a) }
 {}

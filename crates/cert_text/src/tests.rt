@@ -1,4 +1,4 @@
-use crate::{BadText, TextError, parse_cert};
+use crate::{BadText, TextError, parse_cert, print_cert};
 use cert_tree::Tree;
 use std::alloc::Global;
 
@@ -29,6 +29,33 @@ fn reads_certificates(rt: HostRuntime) -> Result<(), TextError> {
         ("cert 0 combine 0 clash 0", 24),
     ] {
         assert_eq!(rt; taken(alloc, text)?, length, "{text}");
+    }
+    Ok(())
+}
+
+/// Whether the certificate in front is printed as these bytes.
+#[tactic(auto, using(crate::proofs::Conditions::begun_spelled))]
+fn is_printed_so(alloc: Global, text: &str) -> Result<bool, TextError> {
+    let (cert, _taken) = parse_cert(alloc, text.as_bytes())?;
+    match print_cert(alloc, &cert) {
+        Ok(printed) => Ok(printed.as_slice() == text.as_bytes()),
+        Err(_) => Err(TextError::Memory),
+    }
+}
+
+#[test]
+fn prints_what_was_read(rt: HostRuntime) -> Result<(), TextError> {
+    let alloc = rt.alloc();
+    for text in [
+        "cert 0 case 0 1 clash 0",
+        "cert 1 inst 0 1 1 1 0 1 1 case 1 1 clash 0",
+        "cert 0 case 0 1 combine 1 0 1 cut 1 combine 1 0 -1 cut 3 combine 2 2 1 4 1 clash 5",
+        "cert 0 case 0 1 case 1 1 cut 0 cut 1 combine 2 2 1 3 1 clash 4",
+        "cert 1 low 4294967295 0 -1 least 0 2 clash 0 clash 1",
+        "cert 0 residues 2 1 0 -1 5 clash 0 clash 0",
+        "cert 0 branch 2 0 1 1 -1 0 solve 0 1 clash 0 clash 2",
+    ] {
+        assert!(rt; is_printed_so(alloc, text)?, "{text}");
     }
     Ok(())
 }
