@@ -116,6 +116,7 @@ fn clauses_facts(
 fn count(n: usize) -> Result<u32, ViewError>
     ensures ok { IfOk result (λ m. m ≡ n) }
     ensures err { IfErr result (λ e. e ≡ ViewError.Memory) }
+    ensures past { IfErr result (λ e. 2 ^ 32 ≤ n) }
 {
     match u32::try_from(n) {
         Ok(m) => Ok(m),
