@@ -11,3 +11,4 @@ pub mod Meaning
 pub mod Noting
 pub mod Places
 pub mod PoolMeaning
+pub mod WellFormed

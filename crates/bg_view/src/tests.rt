@@ -227,16 +227,20 @@ fn two_bounds(rt: HostRuntime) -> Result<(), Fail> {
     Ok(())
 }
 
+fn is_wide_at(viewed: &Result<Viewed, ViewError>, clause: u32, wide: Wide) -> bool {
+    match viewed {
+        Err(ViewError::Wide(at)) => at.clause == clause && at.wide == wide,
+        _ => false,
+    }
+}
+
 fn is_past(viewed: &Result<Viewed, ViewError>, clause: u32) -> bool {
     let past = Wide {
         op: Op::Add,
         left: i128::MAX,
         right: 1,
     };
-    match viewed {
-        Err(ViewError::Wide(at)) => at.clause == clause && at.wide == past,
-        _ => false,
-    }
+    is_wide_at(viewed, clause, past)
 }
 
 // (2^127 - 1 + 1) <= -1
@@ -268,4 +272,16 @@ fn sums_past_the_range(rt: HostRuntime) {
     // Linear of s0 != 2^127 - 1 stays in the range, and its second fact doesn't
     let apart = Literal::Differ(s(rt.alloc(), 0), Term::Num(i128::MAX));
     assert!(rt; is_past(&view_of(rt.alloc(), apart), 0));
+}
+
+// 0 <= -2^127: the right side is multiplied by -1 before it is added
+#[test]
+fn a_product_past_the_range(rt: HostRuntime) {
+    let low = Literal::AtMost(Term::Num(0), Term::Num(i128::MIN));
+    let product = Wide {
+        op: Op::Mul,
+        left: -1,
+        right: i128::MIN,
+    };
+    assert!(rt; is_wide_at(&view_of(rt.alloc(), low), 0, product));
 }

@@ -1,6 +1,6 @@
 //! The numbers of unknowns.
 
-ghost use Rattle.std.specs.Prelude.{◌≡◌, ◌≤◌, ◌<◌, ◌+◌, ◌++◌, length, IfOk, IfErr, OnOk};
+ghost use Rattle.std.specs.Prelude.{◌≡◌, ◌≤◌, ◌<◌, ◌+◌, ◌^◌, ◌++◌, length, IfOk, IfErr, OnOk};
 ghost use Rattle.std.specs.List.Sorted.{IsStrictlyIncreasing};
 ghost use Rattle.lin_base.specs.declared.wides.ArithmeticError.TheVariants.{Memory};
 ghost use Rattle.bg_view.specs.Unknowns as spec;
@@ -74,6 +74,7 @@ pub(crate) fn numbered<'a>(
     ensures variables { IfOk result (λ u. u.variables ≡ variables) }
     ensures numbering { IfOk result (λ u. numbering_of u ≡ spec.numbering symbols.now first variables.keys) }
     ensures memory { IfErr result (λ e. e ≡ Memory) }
+    ensures past { IfErr result (λ e. 2 ^ 32 ≤ first + length variables.keys) }
 {
     let Ok(count) = u32::try_from(variables.len()) else {
         return Err(ArithmeticError::Memory);

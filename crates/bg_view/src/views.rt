@@ -4,7 +4,7 @@ ghost use Rattle.std.specs.Prelude.{◌≡◌, ◌≤◌, ◌<◌, ◌^◌, ◌+
 ghost use Rattle.std.specs.List.Sorted.{IsStrictlyIncreasing};
 ghost use Rattle.lin_base.specs.declared.wides.ArithmeticError.TheVariants.{Memory};
 ghost use Rattle.lin_base.specs.Sum.{Valuation};
-ghost use Rattle.lin_base.specs.Fact.{HoldsAt};
+ghost use Rattle.lin_base.specs.Fact.{HoldsAt, is_pool};
 ghost use Rattle.lin_base.specs.Steps.{Forms};
 ghost use Rattle.bg_view.specs.Numbers.{IsNumbering, numbering_of};
 ghost use Rattle.bg_view.specs.Background.{is_background_clause, are_background};
@@ -116,6 +116,7 @@ fn clauses_facts(
 fn count(n: usize) -> Result<u32, ViewError>
     ensures ok { IfOk result (λ m. m ≡ n) }
     ensures err { IfErr result (λ e. e ≡ ViewError.Memory) }
+    ensures past { IfErr result (λ e. 2 ^ 32 ≤ n) }
 {
     match u32::try_from(n) {
         Ok(m) => Ok(m),
@@ -148,13 +149,15 @@ fn view_of(alloc: Global, symbols: Items<u32>, clauses: &[Clause]) -> Result<Vie
 /// The pool of background clauses. Its parameters are numbered by ascending symbol number, and the
 /// variables of each clause after them by first place. A literal `s <= t` gives the fact `s - t <= 0`,
 /// `s = t` gives `s - t = 0`, and `s != t` gives two facts, `s - t + 1 <= 0` and `-(s - t) + 1 <= 0`;
-/// `true = true` gives `0 = 0`, and `true != true` gives `1 <= 0`. The answer is Wide with the first sum or
-/// product that leaves the range.
+/// `true = true` gives `0 = 0`, and `true != true` gives `1 <= 0`. Each fact of the pool is well formed. The
+/// answer is Wide with the first sum or product that leaves the range.
 pub fn view(alloc: Global, signature: &[Symbol], clauses: &[Clause]) -> Result<Viewed, ViewError>
     requires { IsTrue (are_background signature.now clauses.now) }
     ensures pool { spec.Forms result (spec.view_steps clauses.now) (spec.view clauses.now) }
     ensures truth { IfOk result (λ r. (p : Symbols) (q : Valuation) → GivesSymbols r.symbols p q →
         HoldsAt r.pool q ↔ AreTrueAt p clauses.now) }
+    ensures well_formed { IfOk result (λ r. IsTrue (is_pool r.pool)) }
+    ensures rises { IfOk result (λ r. IsStrictlyIncreasing r.symbols) }
 {
     let symbols = parameters(alloc, clauses)?;
     view_of(alloc, symbols, clauses)
@@ -250,8 +253,8 @@ fn entail_view_of(
 /// the clauses are true and the target is false. Each literal of the target adds a unit clause: `s <= t` adds
 /// `-(s - t) + 1 <= 0`, `s = t` adds the clause of `s - t + 1 <= 0` and `-(s - t) + 1 <= 0`, `s != t` adds
 /// `s - t = 0`, `true = true` adds `1 <= 0`, and `true != true` adds `0 = 0`. The target's variables are
-/// parameters after those of the symbols. The answer is Wide with the first sum or product that leaves the
-/// range.
+/// parameters after those of the symbols. Each fact of the pool is well formed. The answer is Wide with the
+/// first sum or product that leaves the range.
 pub fn entail_view(
     alloc: Global,
     signature: &[Symbol],
@@ -263,6 +266,8 @@ pub fn entail_view(
     ensures pool { spec.Forms result (spec.entail_view_steps clauses.now target.now) (spec.entail_view clauses.now target.now) }
     ensures truth { IfOk result (λ r. (p : Symbols) (w : Variables) (q : Valuation) → GivesTarget r.symbols target.now p w q →
         HoldsAt r.pool q ↔ (AreTrueAt p clauses.now × (clause_holds p w target.now ≡ false))) }
+    ensures well_formed { IfOk result (λ r. IsTrue (is_pool r.pool)) }
+    ensures rises { IfOk result (λ r. IsStrictlyIncreasing r.symbols) }
 {
     let symbols = entail_parameters(alloc, clauses, target)?;
     entail_view_of(alloc, symbols, clauses, target)
