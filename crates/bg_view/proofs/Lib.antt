@@ -12,3 +12,4 @@ pub mod Noting
 pub mod Places
 pub mod PoolMeaning
 pub mod WellFormed
+pub mod Worked

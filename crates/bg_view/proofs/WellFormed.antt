@@ -1,5 +1,5 @@
 -- The facts of views are well formed.
-use Rattle.std.specs.Prelude.{◌≡◌, ℕ, pos, negsuc, Bool, true, ◌&&◌, List, [], ◌∷◌, ◌++◌, if◌then◌else◌}
+use Rattle.std.specs.Prelude.{◌≡◌, ℕ, pos, negsuc, true, ◌&&◌, List, [], ◌∷◌, if◌then◌else◌}
 use Rattle.std.specs.List.{list_all}
 use Rattle.std.proofs.Common.{refl, ◌∙◌, ap}
 use Rattle.std.proofs.lemmas.Bool.{cond_both, and_from}
@@ -11,12 +11,12 @@ use Rattle.term_base.specs.declared.clauses.Clause.{Clause}
 use Rattle.term_base.specs.TermFolds.{fold-Var, fold-Num, fold-True, fold-Sum, fold-Scale, fold-App}
 use Rattle.term_base.specs.TermInduction.{term_induction}
 use Rattle.lin_base.specs.declared.sums.Lin.{Lin}
-use Rattle.lin_base.specs.Sum.{negated, add_number}
+use Rattle.lin_base.specs.Sum.{negated}
 use Rattle.lin_base.specs.Fact.{is_lin, is_fact, is_pool}
 use Rattle.lin_base.proofs.WellFormed.{is_lin-add, is_lin-scale, is_lin-add_number}
 use Rattle.bg_view.specs.Unknowns.{Numbering}
 use Rattle.bg_view.specs.Linear.{Formed, linear_step, linear, difference}
-use Rattle.bg_view.specs.View.{is_truth, above, yes, no, equal, differ, literal_view, negated_view, literals_facts, negated_facts, clause_numbering, clause_facts, clauses_facts, view_of, target_numbering, entail_params, entail_pool_of}
+use Rattle.bg_view.specs.View.{is_truth, above, yes, no, equal, differ, literal_view, negated_view, literals_facts, negated_facts, clause_numbering, clauses_facts, view_of, target_numbering, entail_params, entail_pool_of}
 
 module _ (n : Numbering) where
   pub is_lin-linear : (t : Term) → is_lin (linear n t).sum ≡ true

@@ -1,7 +1,11 @@
+pub mod Carried
 pub mod Counted
 pub mod Folds
 pub mod FormulaCounts
 pub mod Innermost
+pub mod Known
+pub mod OneEmpty
+pub mod Rows
 pub mod Saturation
 pub mod Signature
 pub mod Silent

@@ -40,7 +40,7 @@ some-has_sort r s e = subst (λ (o : Option Sort). has_sort o s ≡ true) (sym e
 
 -- ---- a term whose variables are replaced by terms of their sorts, over a larger signature
 
-known_symbol : (o : Option Symbol) → is_some o ≡ true → (s : Symbol) × (o ≡ Some s)
+pub known_symbol : (o : Option Symbol) → is_some o ≡ true → (s : Symbol) × (o ≡ Some s)
 known_symbol None h = cc
 known_symbol (Some s) h = (s, refl)
 
@@ -136,7 +136,7 @@ tree_instance scope = tree_put (at_variable scope.terms) (instance scope) record
   at_app = λ g ts. fold-App Term (instance_step scope.terms) g ts;
 }
 
-tree_renumber : (ordinary : Bool) (places : List ℕ) (t : Term) → tree (renumber ordinary places t) ≡ put_in (λ v. tree (term.Var (renumbered ordinary places v))) (tree t)
+pub tree_renumber : (ordinary : Bool) (places : List ℕ) (t : Term) → tree (renumber ordinary places t) ≡ put_in (λ v. tree (term.Var (renumbered ordinary places v))) (tree t)
 tree_renumber ordinary places = tree_put (λ v. term.Var (renumbered ordinary places v)) (renumber ordinary places) record {
   at_var = λ v. fold-Var Term (renumber_step ordinary places) v;
   at_num = λ n. fold-Num Term (renumber_step ordinary places) n;

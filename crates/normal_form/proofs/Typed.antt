@@ -1,9 +1,9 @@
 -- A well typed problem gives well sorted clauses.
-use Rattle.std.proofs.Common.{◌≡◌, ℕ, ◌+◌, Bool, true, false, ◌&&◌, not, ◌==◌, List, [], ◌∷◌, ◌++◌, length, map, fold, reverse, refl, sym, ap, ◌∙◌, subst, append_assoc}
+use Rattle.std.proofs.Common.{◌≡◌, ℕ, ◌+◌, Bool, true, false, ◌&&◌, not, ◌==◌, List, [], ◌∷◌, ◌++◌, map, reverse, refl, sym, ap, ◌∙◌, subst, append_assoc}
 use Rattle.std.specs.Prelude.{Option, Some, None, slice_get, pos, if◌then◌else◌}
 use Rattle.std.specs.Option.{option_map_or}
 use Rattle.std.specs.List.{find, list_all}
-use Rattle.std.proofs.lemmas.List.{append-nil, reverse-append, length-map}
+use Rattle.std.proofs.lemmas.List.{append-nil, reverse-append}
 use Rattle.term_base.specs.declared.symbols.Sort.{Sort}
 use Rattle.term_base.specs.declared.symbols.Sort.TheVariants.{Int, Truth}
 use Rattle.term_base.specs.declared.symbols.Symbol.{Symbol}
@@ -19,63 +19,21 @@ use Rattle.term_base.specs.TreeOf.{tree-Var, tree-Num, tree-True, tree-Sum, tree
 use Rattle.term_base.specs.Sorting.{sort, sorts, has_sort, have_sorts}
 use Rattle.term_base.specs.Clauses.{are_alike, is_lit_sorted, is_well_sorted}
 use Rattle.term_base.specs.Lits.{lit, lits}
-use Rattle.formula_base.specs.declared.formulas.Formula.{Formula}
 use Rattle.formula_base.specs.declared.problems.Problem.{Problem}
-use Rattle.formula_base.specs.FormulaFolds.{fold-True, fold-False, fold-Same, fold-Less, fold-LessEq, fold-Not, fold-Implies, fold-Iff, fold-All, fold-Some, fold-Atom, fold-And, fold-Or}
-use Rattle.formula_base.specs.FormulaInduction.{Each, formula_induction}
-use Rattle.formula_base.specs.Typing.{is_bound, is_closed, is_predicate, is_equation, is_inequality, inside, is_typed, typed_step, IsWellTyped}
+use Rattle.formula_base.specs.Typing.{is_bound, is_closed, is_predicate, is_equation, is_inequality, inside, IsWellTyped}
 use Rattle.normal_form.specs.declared.scopes.Scope.{Scope}
-use Rattle.normal_form.specs.Cnf.{Literals, Meaning, cnf, cnf_step, join, appended, joined, at_variable, instance, with_universal, with_skolem, skolem, skolem_terms, unit, plus_one, atom, same, less, less_eq, always, visit, all_symbols, negated, conjunction, disjunction, implication, equivalence, quantified}
+use Rattle.normal_form.specs.Cnf.{Literals, at_variable, instance, skolem, skolem_terms, plus_one, atom, same, less, less_eq}
 use Rattle.normal_form.specs.Numbering.{map_sides, renumber, numbered}
-use Rattle.normal_form.specs.Clauses.{Signed, with_sign, signed, nothing_bound, made_from, made, prepared}
-use Rattle.normal_form.proofs.Signature.{StandsAt, Extends, stands_between, stands_first, stands_second, extends_append}
+use Rattle.normal_form.specs.Clauses.{made, prepared}
+use Rattle.normal_form.proofs.Carried.{OfClause, OfAll, Carries, of_problem}
+use Rattle.normal_form.proofs.Signature.{StandsAt, Extends, extends_append}
 use Rattle.normal_form.proofs.Sorted.{and_left, and_right, has_sort-some, some-has_sort, sort_put, tree_instance, sort_renumber}
 
--- ---- well sorted clauses
-
-abbrev ClauseSorted : List Symbol → Literals → Type 0
-ClauseSorted signature [] = Unit {0}
-ClauseSorted signature (l ∷ ls) = (is_lit_sorted signature (lit l) ≡ true) × ClauseSorted signature ls
-
-abbrev AllSorted : List Symbol → List Literals → Type 0
-AllSorted signature [] = Unit {0}
-AllSorted signature (c ∷ cs) = ClauseSorted signature c × AllSorted signature cs
-
-abbrev EachSorted : List Symbol → List (List Literals) → Type 0
-EachSorted signature [] = Unit {0}
-EachSorted signature (m ∷ ms) = AllSorted signature m × EachSorted signature ms
+-- both sides of a literal are well sorted
+abbrev Fits : List Symbol → Literal → Type 0
+Fits signature l = is_lit_sorted signature (lit l) ≡ true
 
 module _ (g : List Symbol) where
-  clause_append : (c d : Literals) → ClauseSorted g c → ClauseSorted g d → ClauseSorted g (c ++ d)
-  clause_append [] d h k = k
-  clause_append (l ∷ c) d h k = (h.0, clause_append c d h.1 k)
-
-  all_append : (xs ys : List Literals) → AllSorted g xs → AllSorted g ys → AllSorted g (xs ++ ys)
-  all_append [] ys h k = k
-  all_append (x ∷ xs) ys h k = (h.0, all_append xs ys h.1 k)
-
-  one_join : (c : Literals) (right : List Literals) → ClauseSorted g c → AllSorted g right → AllSorted g (map (λ d. c ++ d) right)
-  one_join c [] h k = tt
-  one_join c (d ∷ right) h k = (clause_append c d h k.0, one_join c right h k.1)
-
-  all_join : (left right : List Literals) → AllSorted g left → AllSorted g right → AllSorted g (join left right)
-  all_join [] right h k = tt
-  all_join (c ∷ left) right h k = all_append (map (λ d. c ++ d) right) (join left right) (one_join c right h.0 k) (all_join left right h.1 k)
-
-  all_appended : (ms : List (List Literals)) → EachSorted g ms → AllSorted g (appended ms)
-  all_appended [] h = tt
-  all_appended (m ∷ ms) h = all_append m (appended ms) h.0 (all_appended ms h.1)
-
-  all_joined_from : (acc : List Literals) (ms : List (List Literals)) → AllSorted g acc → EachSorted g ms → AllSorted g (fold join acc ms)
-  all_joined_from acc [] h k = h
-  all_joined_from acc (m ∷ ms) h k = all_joined_from (join acc m) ms (all_join acc m h k.0) k.1
-
-  all_joined : (ms : List (List Literals)) → EachSorted g ms → AllSorted g (joined ms)
-  all_joined ms h = all_joined_from ([] ∷ []) ms (tt, tt) h
-
-  one_unit : (l : Literal) → is_lit_sorted g (lit l) ≡ true → AllSorted g (unit l).clauses
-  one_unit l h = ((h, tt), tt)
-
   -- ---- terms
 
   plus_one_sorted : (a : Term) → sort g (tree a) ≡ Some Int → sort g (tree (plus_one a)) ≡ Some Int
@@ -139,68 +97,6 @@ ints_from : (x y : Option Sort) → x ≡ Some Int → y ≡ Some Int → has_so
 ints_from x y e f = ap (λ (o : Option Sort). has_sort o Int && has_sort y Int) e ∙ some-has_sort y Int f
 
 module _ (larger smaller : List Symbol) (extends : Extends larger smaller) where
-  -- a well typed formula gives well sorted clauses, whatever is in scope
-  abbrev Good : Meaning → (List Variable → Bool) → Type 0
-  Good m typed = (binders : List Variable) (sign : Bool) (scope : Scope) (next : ℕ) → typed binders ≡ true → Scoped larger binders scope.terms
-      → StandsAt larger next (m sign scope next).symbols → AllSorted larger (m sign scope next).clauses
-
-  abbrev AllGood : List Meaning → List (List Variable → Bool) → Type 0
-  AllGood [] [] = Unit {0}
-  AllGood (m ∷ ms) (t ∷ ts) = Good m t × AllGood ms ts
-  AllGood _ _ = ⊥
-
-  visit_good : (ms : List Meaning) (ts : List (List Variable → Bool)) → AllGood ms ts → (binders : List Variable) (sign : Bool) (scope : Scope) (next : ℕ) → list_all (λ a. a binders) ts ≡ true
-      → Scoped larger binders scope.terms → StandsAt larger next (all_symbols (visit ms sign scope next)) → EachSorted larger (map (λ m. m.clauses) (visit ms sign scope next))
-  visit_good [] ts h binders sign scope next typed scoped stands = tt
-  visit_good (m ∷ ms) [] h binders sign scope next typed scoped stands = absurd h
-  visit_good (m ∷ ms) (t ∷ ts) h binders sign scope next typed scoped stands =
-      let first = (m sign scope next).symbols in
-      let rest = all_symbols (visit ms sign scope (next + length first)) in (
-        h.0 binders sign scope next (and_left (t binders) (list_all (λ a. a binders) ts) typed) scoped (stands_first larger first rest next stands),
-        visit_good ms ts h.1 binders sign scope (next + length first) (and_right (t binders) (list_all (λ a. a binders) ts) typed) scoped (stands_second larger first rest next stands),
-      )
-
-  conjunction_good : (ms : List Meaning) (ts : List (List Variable → Bool)) → AllGood ms ts → Good (conjunction ms) (λ binders. list_all (λ a. a binders) ts)
-  conjunction_good ms ts h binders true scope next typed scoped stands = all_appended larger (map (λ m. m.clauses) (visit ms true scope next)) (visit_good ms ts h binders true scope next typed scoped stands)
-  conjunction_good ms ts h binders false scope next typed scoped stands = all_joined larger (map (λ m. m.clauses) (visit ms false scope next)) (visit_good ms ts h binders false scope next typed scoped stands)
-
-  disjunction_good : (ms : List Meaning) (ts : List (List Variable → Bool)) → AllGood ms ts → Good (disjunction ms) (λ binders. list_all (λ a. a binders) ts)
-  disjunction_good ms ts h binders true scope next typed scoped stands = all_joined larger (map (λ m. m.clauses) (visit ms true scope next)) (visit_good ms ts h binders true scope next typed scoped stands)
-  disjunction_good ms ts h binders false scope next typed scoped stands = all_appended larger (map (λ m. m.clauses) (visit ms false scope next)) (visit_good ms ts h binders false scope next typed scoped stands)
-
-  two_typed : (a b : Bool) → a && b ≡ true → a && (b && true) ≡ true
-  two_typed true true h = refl
-  two_typed true false h = h
-  two_typed false b h = h
-
-  implication_good : (m n : Meaning) (t u : List Variable → Bool) → Good m t → Good n u → Good (implication m n) (λ binders. t binders && u binders)
-  implication_good m n t u h k binders sign scope next typed scoped stands =
-      disjunction_good (negated m ∷ n ∷ []) (t ∷ u ∷ []) ((λ bs s sc at. h bs (not s) sc at), (k, tt)) binders sign scope next (two_typed (t binders) (u binders) typed) scoped stands
-
-  turned : (a b : Bool) → a && b ≡ true → b && a ≡ true
-  turned true true h = refl
-  turned true false h = h
-  turned false true h = h
-  turned false false h = h
-
-  equivalence_good : (m n : Meaning) (t u : List Variable → Bool) → Good m t → Good n u → Good (equivalence m n) (λ binders. t binders && u binders)
-  equivalence_good m n t u h k binders sign scope next typed scoped stands =
-      let there = t binders && u binders in
-      let back = u binders && t binders in
-      let both = ap (λ (b : Bool). b && (back && true)) typed ∙ ap (λ (b : Bool). b && true) (turned (t binders) (u binders) typed) in
-      conjunction_good (implication m n ∷ implication n m ∷ []) ((λ bs. t bs && u bs) ∷ (λ bs. u bs && t bs) ∷ [])
-      (implication_good m n t u h k, (implication_good n m u t k h, tt)) binders sign scope next both scoped stands
-
-  quantified_good : (universal : Bool) (vs : List Variable) (m : Meaning) (t : List Variable → Bool) → Good m t → Good (quantified universal vs m) (λ binders. t (inside vs binders))
-  quantified_good true vs m t h binders sign scope next typed scoped stands =
-      h (inside vs binders) sign (with_universal vs scope) next typed (bind_universals larger vs binders scope.terms scoped) stands
-  quantified_good false vs m t h binders sign scope next typed scoped stands =
-      let own = map (skolem scope.universal) vs in
-      let inner = (m sign (with_skolem next vs scope) (next + length vs)).symbols in
-      let behind = subst (λ (n : ℕ). StandsAt larger (next + n) inner) (length-map vs (skolem scope.universal)) (stands_second larger own inner next stands) in
-      h (inside vs binders) sign (with_skolem next vs scope) (next + length vs) typed
-      (bind_skolems larger scope.universal vs binders scope.terms next scoped (stands_first larger own inner next stands)) behind
-
   -- ---- atoms
 
   term_sorted : (binders : List Variable) (scope : Scope) → Scoped larger binders scope.terms → (t : Term) (r : Sort) → is_closed smaller binders (tree t) ≡ true → sort smaller (tree t) ≡ Some r → sort larger (tree (instance scope t)) ≡ Some r
@@ -251,71 +147,19 @@ module _ (larger smaller : List Symbol) (extends : Extends larger smaller) where
             (has_sort-some (sort smaller (tree t)) Int (and_right (has_sort (sort smaller (tree s)) Int) (has_sort (sort smaller (tree t)) Int) rest)),
       )
 
-  -- ---- formulas
-
-  abbrev IsGood : Formula → Type 0
-  IsGood g = Good (cnf g) (is_typed smaller g)
-
-  each_good : (gs : List Formula) → Each IsGood gs → AllGood (map cnf gs) (map (is_typed smaller) gs)
-  each_good [] h = tt
-  each_good (g ∷ gs) h = (h.0, each_good gs h.1)
-
-  always_good : (sign : Bool) → AllSorted larger (always sign).clauses
-  always_good true = tt
-  always_good false = (tt, tt)
-
-  -- from the equations of the two folds
-  by_equations : (m m' : Meaning) (t t' : List Variable → Bool) → m ≡ m' → t ≡ t' → Good m' t' → Good m t
-  by_equations m m' t t' p q h = rw (p, q) h
-
-  pub good : (g : Formula) → IsGood g
-  good = formula_induction IsGood
-      (by_equations _ _ _ _ (fold-True Meaning cnf_step) (fold-True (List Variable → Bool) (typed_step smaller)) (λ binders sign scope next typed scoped stands. always_good sign))
-      (by_equations _ _ _ _ (fold-False Meaning cnf_step) (fold-False (List Variable → Bool) (typed_step smaller)) (λ binders sign scope next typed scoped stands. always_good (not sign)))
-      (λ s. by_equations _ _ _ _ (fold-Atom Meaning cnf_step s) (fold-Atom (List Variable → Bool) (typed_step smaller) s)
-      (λ binders sign scope next typed scoped stands. one_unit larger (atom sign (instance scope s)) (predicate_good binders sign scope s typed scoped)))
-      (λ s u. by_equations _ _ _ _ (fold-Same Meaning cnf_step s u) (fold-Same (List Variable → Bool) (typed_step smaller) s u)
-      (λ binders sign scope next typed scoped stands. one_unit larger (same sign (instance scope s) (instance scope u)) (same_good sign (instance scope s) (instance scope u) (equation_alike binders scope s u typed scoped))))
-      (λ s u. by_equations _ _ _ _ (fold-Less Meaning cnf_step s u) (fold-Less (List Variable → Bool) (typed_step smaller) s u)
-      (λ binders sign scope next typed scoped stands. let ints = inequality_ints binders scope s u typed scoped in
-      one_unit larger (less sign (instance scope s) (instance scope u)) (less_good sign (instance scope s) (instance scope u) ints.0 ints.1)))
-      (λ s u. by_equations _ _ _ _ (fold-LessEq Meaning cnf_step s u) (fold-LessEq (List Variable → Bool) (typed_step smaller) s u)
-      (λ binders sign scope next typed scoped stands. let ints = inequality_ints binders scope s u typed scoped in
-      one_unit larger (less_eq sign (instance scope s) (instance scope u)) (less_eq_good sign (instance scope s) (instance scope u) ints.0 ints.1)))
-      (λ g h. by_equations _ _ _ _ (fold-Not Meaning cnf_step g) (fold-Not (List Variable → Bool) (typed_step smaller) g) (λ binders sign scope next. h binders (not sign) scope next))
-      (λ gs h. by_equations _ _ _ _ (fold-And Meaning cnf_step gs) (fold-And (List Variable → Bool) (typed_step smaller) gs) (conjunction_good (map cnf gs) (map (is_typed smaller) gs) (each_good gs h)))
-      (λ gs h. by_equations _ _ _ _ (fold-Or Meaning cnf_step gs) (fold-Or (List Variable → Bool) (typed_step smaller) gs) (disjunction_good (map cnf gs) (map (is_typed smaller) gs) (each_good gs h)))
-      (λ g h p q. by_equations _ _ _ _ (fold-Implies Meaning cnf_step g h) (fold-Implies (List Variable → Bool) (typed_step smaller) g h) (implication_good (cnf g) (cnf h) (is_typed smaller g) (is_typed smaller h) p q))
-      (λ g h p q. by_equations _ _ _ _ (fold-Iff Meaning cnf_step g h) (fold-Iff (List Variable → Bool) (typed_step smaller) g h) (equivalence_good (cnf g) (cnf h) (is_typed smaller g) (is_typed smaller h) p q))
-      (λ vs g p. by_equations _ _ _ _ (fold-All Meaning cnf_step vs g) (fold-All (List Variable → Bool) (typed_step smaller) vs g) (λ binders sign scope next. quantified_good sign vs (cnf g) (is_typed smaller g) p binders sign scope next))
-      (λ vs g p. by_equations _ _ _ _ (fold-Some Meaning cnf_step vs g) (fold-Some (List Variable → Bool) (typed_step smaller) vs g) (λ binders sign scope next. quantified_good (not sign) vs (cnf g) (is_typed smaller g) p binders sign scope next))
-
-  -- ---- the formulas of a problem
-
-  abbrev AllTyped : List Signed → Type 0
-  AllTyped [] = Unit {0}
-  AllTyped (s ∷ rest) = (is_typed smaller s.formula [] ≡ true) × AllTyped rest
-
-  with_sign_typed : (sign : Bool) (gs : List Formula) → list_all (λ g. is_typed smaller g []) gs ≡ true → AllTyped (with_sign sign gs)
-  with_sign_typed sign [] h = tt
-  with_sign_typed sign (g ∷ gs) h =
-      (and_left (is_typed smaller g []) (list_all (λ f. is_typed smaller f []) gs) h, with_sign_typed sign gs (and_right (is_typed smaller g []) (list_all (λ f. is_typed smaller f []) gs) h))
-
-  append_typed : (xs ys : List Signed) → AllTyped xs → AllTyped ys → AllTyped (xs ++ ys)
-  append_typed [] ys h k = k
-  append_typed (x ∷ xs) ys h k = (h.0, append_typed xs ys h.1 k)
-
   nothing_scoped : Scoped larger [] []
   nothing_scoped v bound = cc
 
-  made_good : (ss : List Signed) → AllTyped ss → (next : ℕ) → StandsAt larger next (all_symbols (made_from ss next)) → EachSorted larger (map (λ m. m.clauses) (made_from ss next))
-  made_good [] h next stands = tt
-  made_good (s ∷ rest) h next stands =
-      let first = (cnf s.formula s.sign nothing_bound next).symbols in
-      let behind = all_symbols (made_from rest (next + length first)) in (
-        good s.formula [] s.sign nothing_bound next h.0 nothing_scoped (stands_first larger first behind next stands),
-        made_good rest h.1 (next + length first) (stands_second larger first behind next stands),
-      )
+  carries : Carries larger smaller (Fits larger) (Scoped larger)
+  carries = record {
+    nothing = nothing_scoped;
+    universals = bind_universals larger;
+    skolems = bind_skolems larger;
+    at_atom = predicate_good;
+    at_same = λ binders sign scope s u typed scoped. same_good sign (instance scope s) (instance scope u) (equation_alike binders scope s u typed scoped);
+    at_less = λ binders sign scope s u typed scoped. let ints = inequality_ints binders scope s u typed scoped in less_good sign (instance scope s) (instance scope u) ints.0 ints.1;
+    at_less_eq = λ binders sign scope s u typed scoped. let ints = inequality_ints binders scope s u typed scoped in less_eq_good sign (instance scope s) (instance scope u) ints.0 ints.1;
+  }
 
 -- ---- numbering keeps the sorts
 
@@ -328,30 +172,19 @@ literal_renumbered g ordinary places (AtMost s t) =
     ap (λ (x : Option Sort). has_sort x Int && has_sort (sort g (tree (renumber ordinary places t))) Int) (sort_renumber g ordinary places s)
     ∙ ap (λ (x : Option Sort). has_sort (sort g (tree s)) Int && has_sort x Int) (sort_renumber g ordinary places t)
 
-clause_renumbered : (g : List Symbol) (ordinary : Bool) (places : List ℕ) (ls : Literals) → ClauseSorted g ls → list_all (is_lit_sorted g) (map lit (map (map_sides (renumber ordinary places)) ls)) ≡ true
+clause_renumbered : (g : List Symbol) (ordinary : Bool) (places : List ℕ) (ls : Literals) → OfClause (Fits g) ls → list_all (is_lit_sorted g) (map lit (map (map_sides (renumber ordinary places)) ls)) ≡ true
 clause_renumbered g ordinary places [] h = refl
 clause_renumbered g ordinary places (l ∷ ls) h =
     ap (λ (b : Bool). b && list_all (is_lit_sorted g) (map lit (map (map_sides (renumber ordinary places)) ls))) (literal_renumbered g ordinary places l ∙ h.0)
     ∙ clause_renumbered g ordinary places ls h.1
 
-all_numbered : (g : List Symbol) (ordinary : Bool) (cs : List Literals) → AllSorted g cs → list_all (λ c. is_well_sorted g (lits c)) (map (numbered g ordinary) cs) ≡ true
+all_numbered : (g : List Symbol) (ordinary : Bool) (cs : List Literals) → OfAll (Fits g) cs → list_all (λ c. is_well_sorted g (lits c)) (map (numbered g ordinary) cs) ≡ true
 all_numbered g ordinary [] h = refl
 all_numbered g ordinary (c ∷ cs) h =
     ap (λ (b : Bool). b && list_all (λ d. is_well_sorted g (lits d)) (map (numbered g ordinary) cs)) (clause_renumbered g _ _ c h.0) ∙ all_numbered g ordinary cs h.1
 
-list_all_parts : (f : Formula → Bool) (xs ys : List Formula) → list_all f (xs ++ ys) ≡ true → (list_all f xs ≡ true) × (list_all f ys ≡ true)
-list_all_parts f [] ys h = (refl, h)
-list_all_parts f (x ∷ xs) ys h =
-    let rest = list_all_parts f xs ys (and_right (f x) (list_all f (xs ++ ys)) h) in
-    (ap (λ (b : Bool). b && list_all f xs) (and_left (f x) (list_all f (xs ++ ys)) h) ∙ rest.0, rest.1)
-
 pub well_sorted : (p : Problem) (ordinary : Bool) → IsWellTyped p → list_all (λ c. is_well_sorted (prepared p ordinary).symbols (lits c)) (prepared p ordinary).clauses ≡ true
 well_sorted p ordinary typed =
-    let parts = list_all_parts (λ g. is_typed p.symbols g []) p.premises (option_map_or (λ g. g ∷ []) p.conjecture []) typed in
     let larger = p.symbols ++ (made p).symbols in
     let extends = extends_append p.symbols (made p).symbols in
-    let all = append_typed larger p.symbols extends (with_sign true p.premises) (with_sign false (option_map_or (λ g. g ∷ []) p.conjecture []))
-    (with_sign_typed larger p.symbols extends true p.premises parts.0) (with_sign_typed larger p.symbols extends false (option_map_or (λ g. g ∷ []) p.conjecture []) parts.1) in
-    let stands = subst (λ (xs : List Symbol). StandsAt (p.symbols ++ xs) (length p.symbols) (made p).symbols) (append-nil (made p).symbols) (stands_between p.symbols (made p).symbols []) in
-    let each = made_good larger p.symbols extends (signed p) all (length p.symbols) stands in
-    all_numbered larger ordinary (made p).clauses (all_appended larger (map (λ m. m.clauses) (made_from (signed p) (length p.symbols))) each)
+    all_numbered larger ordinary (made p).clauses (of_problem p (Fits larger) (Scoped larger) (carries larger p.symbols extends) typed)

@@ -2,6 +2,8 @@ pub mod Answer
 pub mod Clauses
 pub mod Cnf
 pub mod Count
+pub mod Known
 pub mod Lookup
 pub mod Numbering
 pub mod Quantifiers
+pub mod Rows

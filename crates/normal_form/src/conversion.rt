@@ -107,7 +107,7 @@ impl Conversion {
         let mut all = always(alloc, false)?;
         for member in members {
             let made = self.visit(alloc, member, sign, true)?;
-            all = join(alloc, all, made.as_slice())?;
+            all = join(alloc, all, made)?;
         }
         Ok(all)
     }

@@ -1,14 +1,39 @@
 //! Lists of clauses, joined pairwise.
 
-ghost use Rattle.std.specs.Prelude.{◌≡◌, ◌++◌, map, OnOk, IfOk, if◌then◌else◌};
+ghost use Rattle.std.specs.Prelude.{◌≡◌, ◌++◌, [], ◌∷◌, map, OnOk, IfOk, IsTrue, if◌then◌else◌};
 ghost use Rattle.normal_form.specs.Cnf.{join};
 
 use sqlite_items::Items;
 use std::alloc::{AllocError, Global};
 use term_base::Literal;
 
-/// Each clause of the first list with each of the second; the first runs slowest.
+/// Each clause of the first list with each of the second; the first runs slowest. Where the first list is one empty
+/// clause, the second is given as it is, without a copy.
 pub(crate) fn join(
+    alloc: Global,
+    left: Vec<Items<Literal>>,
+    right: Vec<Items<Literal>>,
+) -> Result<Vec<Items<Literal>>, AllocError>
+    ensures { IfOk result (λ all. all.items ≡ join left.items right.items) }
+{
+    if is_empty_clause_alone(left.as_slice()) {
+        return Ok(right);
+    }
+    join_each(alloc, left, right.as_slice())
+}
+
+/// Whether there is one clause, and it is empty.
+fn is_empty_clause_alone(clauses: &[Items<Literal>]) -> bool
+    ensures { IsTrue result → clauses.now ≡ [] ∷ [] }
+{
+    if let [clause] = clauses {
+        return clause.as_slice().is_empty();
+    }
+    false
+}
+
+/// Each clause of the first list with copies of each of the second; the first runs slowest.
+fn join_each(
     alloc: Global,
     left: Vec<Items<Literal>>,
     right: &[Items<Literal>],
@@ -34,7 +59,7 @@ pub(crate) fn disjoined(
     let mut left = left;
     let mut right = right;
     if joined {
-        return join(alloc, left, right.as_slice());
+        return join(alloc, left, right);
     }
     left.append(&mut right)?;
     Ok(left)

@@ -13,11 +13,15 @@ mod preparing;
 mod scopes;
 
 pub use counting::count;
-pub use laws::{clauses_are_counted, clauses_are_well_sorted};
+pub use laws::{
+    clauses_are_counted, clauses_are_well_sorted, clauses_have_known_symbols, definition_gives_rows,
+};
 pub use preparing::{ClausesError, clauses};
 pub use scopes::Scope;
 pub use term_base::{Prepared, TooMany};
 
+#[cfg(test)]
+mod lazy_tests;
 #[cfg(test)]
 mod sign_tests;
 #[cfg(test)]

@@ -2,6 +2,7 @@
 
 ghost use Rattle.std.specs.Prelude.{◌≡◌, ◌++◌, ◌≤◌, ◌<◌, length, IfOk, OnOk, IfErr};
 ghost use Rattle.normal_form.specs.Clauses.{AreWellSorted, count_of, made, max_clauses, prepared};
+ghost use Rattle.normal_form.specs.Known.{HasKnownSymbols};
 ghost use Rattle.formula_base.specs.Typing.{IsWellTyped};
 ghost use Rattle.normal_form.specs.Count.{saturated};
 ghost use Rattle.normal_form.specs.Answer.{IsRefusal};
@@ -46,6 +47,7 @@ impl From<AllocError> for ClausesError {
 pub fn clauses(alloc: Global, problem: &Problem, ordinary: bool) -> Result<Prepared, ClausesError>
     ensures prepared { IfOk result (λ p. p ≡ prepared problem.now ordinary) }
     ensures well_sorted { IsWellTyped problem.now → IfOk result AreWellSorted }
+    ensures known { IsWellTyped problem.now → IfOk result HasKnownSymbols }
     ensures counted { IfOk result (λ p. length p.clauses ≡ count_of problem.now) }
     ensures within { OnOk result (count_of problem.now ≤ max_clauses) }
     ensures too_many { max_clauses < count_of problem.now → result ≡ Err (ClausesError.TooMany (record { count = saturated (count_of problem.now) })) }

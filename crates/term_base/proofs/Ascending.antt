@@ -1,9 +1,9 @@
 -- The test of a substitution, and what a search among its pairs finds.
-use Rattle.std.proofs.Common.{◌≡◌, ◌≢◌, ◌<◌, inl, inr, ℕ, zero, suc, Bool, true, false, ◌&&◌, not, List, [], ◌∷◌, length, refl, ap, sym, ◌∙◌, subst, arith}
+use Rattle.std.proofs.Common.{◌≡◌, ◌≢◌, ◌<◌, inl, inr, ℕ, zero, suc, true, false, ◌&&◌, not, List, [], ◌∷◌, length, refl, ap, sym, ◌∙◌, subst, arith}
 use Rattle.std.specs.Prelude.{Option, Some, None, Result, Ok, Err, All, AllPairs}
 use Rattle.std.specs.List.{slice_index_or, AllWithin}
 use Rattle.std.specs.List.Sorted.{IsNonDecreasingBy, IsSearchInRange, IsBinarySearchResult}
-use Rattle.std.proofs.lemmas.Bool.{cases_lt}
+use Rattle.std.proofs.lemmas.Bool.{cases_lt, not-true}
 use Rattle.std.specs.Ordering.{is_lt, ordering_index}
 use Rattle.std.specs.declared.cmp.Ordering.{Ordering}
 use Rattle.std.specs.declared.cmp.Ordering.TheVariants.{Less, Equal, Greater}
@@ -17,6 +17,8 @@ use Rattle.term_base.specs.Same.{same_variable}
 use Rattle.term_base.specs.SameLemmas.{same_variable-true, same_variable-refl}
 use Rattle.term_base.specs.SameTerm.{same_term, same_term-true, same_term-refl}
 use Rattle.term_base.specs.Trees.{tree, var}
+use Rattle.term_base.specs.TreeBack.{tree_injective}
+use Rattle.term_base.specs.TreeOf.{tree-Var}
 use Rattle.term_base.specs.TreeLemmas.{true_or_false, both_ways, and-true}
 use Rattle.term_base.specs.Substitution.{image, IsSubstitution}
 use Rattle.term_base.specs.SubstTest.{follows, ascends_after}
@@ -36,10 +38,6 @@ lt-less : (o : Ordering) → is_lt o ≡ true → o ≡ Less
 lt-less Less h = refl
 lt-less Equal h = cc
 lt-less Greater h = cc
-
-not-true : (b : Bool) → not b ≡ true → b ≡ false
-not-true true h = cc
-not-true false h = refl
 
 moves_test : (p : Variable × Term) → not (same_term p.1 (term.Var p.0)) ≡ true → Moves p
 moves_test p h e = both_ways (same_term p.1 (term.Var p.0)) (ap (λ t. same_term t (term.Var p.0)) e ∙ same_term-refl (term.Var p.0)) (not-true (same_term p.1 (term.Var p.0)) h)
@@ -120,6 +118,13 @@ image-found (p ∷ rest) v up (suc k) d in_range e =
     let other : same_variable p.0 v ≡ false = different p.0 v (λ same. variable_cmp-irrefl p.0 (slice_index_or rest k d).0 below (variable_cmp-equal p.0 v same ∙ sym (variable_cmp-equal (slice_index_or rest k d).0 v e))) in
     rw other (image-found rest v (pairs_tail p rest up) k d (omega arith) e)
 
+-- no term beside a variable is this variable
+found-moves : (ps : Pairs) (v : Variable) → All Moves ps → (k : ℕ) (d : Variable × Term) → k < length ps → variable_cmp (slice_index_or ps k d).0 v ≡ Equal → tree (slice_index_or ps k d).1 ≢ var v
+found-moves ps v moves k d in_range e itself =
+    let p = slice_index_or ps k d in
+    let is : p.1 ≡ term.Var v = tree_injective p.1 (term.Var v) (itself ∙ sym (tree-Var v)) in
+    moves k d in_range (is ∙ ap term.Var (sym (variable_cmp-equal p.0 v e)))
+
 -- and of one that has none
 pub image-absent : (ps : Pairs) (v : Variable) → All (λ p. variable_cmp p.0 v ≢ Equal) ps → image ps v ≡ var v
 image-absent [] v h = refl
@@ -132,11 +137,14 @@ module _ (cmp : Variable → Variable → Ordering) (agrees : (u w : Variable) �
   abbrev Compared : Variable × Term → Ordering
   Compared p = cmp p.0 v
 
-  pub found_there : (r : Result ℕ ℕ) (at : ℕ) → r ≡ Ok at → IsSearchInRange r (length ps) → IsBinarySearchResult Compared ps r → (d : Variable × Term) → image ps v ≡ tree (slice_index_or ps at d).1
+  pub found_there : (r : Result ℕ ℕ) (at : ℕ) → r ≡ Ok at → IsSearchInRange r (length ps) → IsBinarySearchResult Compared ps r → (d : Variable × Term) → (image ps v ≡ tree (slice_index_or ps at d).1) × (image ps v ≢ var v)
   found_there (Ok k) at e in_range is d =
       let same : k ≡ at = cc in
-      subst (λ n. image ps v ≡ tree (slice_index_or ps n d).1) same
-      (image-found ps v s.ascending k d in_range (sym (agrees (slice_index_or ps k d).0 v) ∙ is d))
+      let equal : variable_cmp (slice_index_or ps k d).0 v ≡ Equal = sym (agrees (slice_index_or ps k d).0 v) ∙ is d in
+      let found = image-found ps v s.ascending k d in_range equal in (
+        subst (λ n. image ps v ≡ tree (slice_index_or ps n d).1) same found,
+        (λ itself. found-moves ps v s.moves k d in_range equal (sym found ∙ itself)),
+      )
   found_there (Err k) at e in_range is d = cc
 
   compared_apart : (k i : ℕ) → (AllWithin (λ p. Compared p ≡ Less) ps 0 i × AllWithin (λ p. Compared p ≡ Greater) ps i (length ps)) → (d : Variable × Term) → k < length ps → variable_cmp (slice_index_or ps k d).0 v ≢ Equal

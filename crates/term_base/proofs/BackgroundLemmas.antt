@@ -1,5 +1,6 @@
 -- Terms of sort Int without foreground symbols, and what substitutions by them keep.
 use Rattle.std.proofs.Common.{◌≡◌, Bool, true, false, not, List, [], ◌∷◌, refl, ap, sym, ◌∙◌, inl, inr}
+use Rattle.std.proofs.lemmas.Bool.{not-true, not-false}
 use Rattle.std.specs.Prelude.{Option, Some, None, if◌then◌else◌, slice_get}
 use Rattle.std.specs.List.{list_all}
 use Rattle.std.specs.Option.{option_map_or}
@@ -18,7 +19,7 @@ use Rattle.term_base.specs.Substitution.{put_in, put_all, Simple}
 use Rattle.term_base.specs.SubstLemmas.{foreground-put_in, inner_foreground}
 use Rattle.term_base.specs.Lits.{Lit, lit_occurs, clause_occurs, put_lit, put_clause}
 use Rattle.term_base.specs.Clauses.{is_background_tree, is_background_lit, is_background}
-use Rattle.term_base.proofs.SimpleLemmas.{has_sort-true, not-true}
+use Rattle.term_base.proofs.SimpleLemmas.{has_sort-true}
 
 -- a symbol that is no foreground symbol has no arguments
 parameter_args : (args : List Sort) (r : Sort) → is_foreground_class (class_of args r) ≡ false → args ≡ []
@@ -39,10 +40,6 @@ int_arity signature (number n) h = refl
 int_arity signature plus h = refl
 int_arity signature times h = refl
 int_arity signature (symbol f) h = ap are_ints (symbol_args (slice_get signature f) h)
-
-not-false : (b : Bool) → not b ≡ false → b ≡ true
-not-false true h = refl
-not-false false h = absurd (both_ways true refl h)
 
 -- a part that has a sort is well sorted
 fits : (b : Bool) (r s : Sort) → (if b then Some r else None) ≡ Some s → b ≡ true

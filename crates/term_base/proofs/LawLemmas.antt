@@ -1,6 +1,9 @@
 -- The laws of substitutions, places and weights.
 use Rattle.std.proofs.Common.{◌≡◌, ◌≤◌, ℕ, zero, suc, true, false, ◌&&◌, not, List, [], ◌∷◌, map, inl, inr, refl, ap, sym, ◌∙◌, arith}
-use Rattle.std.specs.Prelude.{Option, Some, None}
+use Rattle.std.proofs.lemmas.Bool.{not-false}
+use Rattle.std.proofs.lemmas.List.Sums.{sum_by-cons}
+use Rattle.std.specs.List.{sum}
+use Rattle.std.specs.Prelude.{Some, ◌+◌}
 use Rattle.std.specs.Option.{option_and_then, option_map_or}
 use Rattle.term_base.specs.declared.clauses.Clause.{Clause}
 use Rattle.term_base.specs.declared.clauses.Literal.{Literal}
@@ -28,19 +31,16 @@ use Rattle.term_base.specs.Purity.{is_abstraction, foreground_head, foreground, 
 use Rattle.term_base.specs.Substitution.{put_in, put_all, Simple}
 use Rattle.term_base.specs.SubstLemmas.{sort-put_in}
 use Rattle.term_base.specs.Lits.{Lit, lit, lits, put_lit, put_clause, EachLit}
-use Rattle.term_base.specs.LitLemmas.{at_path-put, put_at-put, named-put, with_side-put, item-put, changed-put}
+use Rattle.term_base.specs.LitLemmas.{first_of, at_path-put, put_at-put, named-put, with_side-put, item-put, changed-put}
 use Rattle.term_base.specs.Clauses.{are_sides, is_lit_sorted, is_well_sorted, is_background_tree, is_background}
 use Rattle.term_base.specs.Places.{named, with_side, item, changed, argument, with_argument, argument_number, child, with_child, at_path, put_child, put_at, tree_at, put_place, replaced}
 use Rattle.term_base.specs.Weight.{weight, weight_all}
-use Rattle.term_base.specs.Nodes.{total, nodes, nodes_step}
+use Rattle.term_base.specs.Nodes.{nodes, nodes_step}
 
 module _ (signature : List Symbol) (s : Variable → Tree) (simple : Simple signature s) where
-  abstraction_of : (v : Variable) → not (is_abstraction v) ≡ false → is_abstraction v ≡ true
-  abstraction_of v h = elim (true_or_false (is_abstraction v)) [ inl e ↦ e | inr e ↦ absurd (both_ways (not (is_abstraction v)) (ap not e) h) ]
-
   mutual
     pure_foreground : (t : Tree) → foreground signature t ≡ false → ordinary t ≡ false → foreground signature (put_in s t) ≡ false
-    pure_foreground (var v) h k = (simple.pure v (abstraction_of v k)).no_foreground
+    pure_foreground (var v) h k = (simple.pure v (not-false (is_abstraction v) k)).no_foreground
     pure_foreground (node f xs) h k =
         let two = or-false (foreground_head signature f) (any_foreground signature xs) h in
         rw (two.0) (pure_any_foreground xs two.1 k)
@@ -54,7 +54,7 @@ module _ (signature : List Symbol) (s : Variable → Tree) (simple : Simple sign
 
   mutual
     pure_ordinary : (t : Tree) → ordinary t ≡ false → ordinary (put_in s t) ≡ false
-    pure_ordinary (var v) k = (simple.pure v (abstraction_of v k)).no_ordinary
+    pure_ordinary (var v) k = (simple.pure v (not-false (is_abstraction v) k)).no_ordinary
     pure_ordinary (node f xs) k = pure_any_ordinary xs k
 
     pure_any_ordinary : (xs : Trees) → any_ordinary xs ≡ false → any_ordinary (put_all s xs) ≡ false
@@ -90,7 +90,15 @@ mutual
 background-pure : (signature : List Symbol) (t : Tree) → IsPure signature t → is_background_tree signature t ≡ true
 background-pure signature t p = rw (p.no_foreground, foreign-none t p.no_ordinary) refl
 
--- a clause of pure sides is a background clause, and stays one under a simple substitution
+-- a clause of pure sides is a background clause
+pub background-sides : (signature : List Symbol) (c : List Lit) → EachLit (λ l. IsPure signature l.left × IsPure signature l.right) c → is_background signature c ≡ true
+background-sides signature [] h = refl
+background-sides signature (l ∷ ls) h =
+    let left = background-pure signature l.left h.0.0 in
+    let right = background-pure signature l.right h.0.1 in
+    rw (left, right, background-sides signature ls h.1) refl
+
+-- and stays one under a simple substitution
 pub background-put : (signature : List Symbol) (s : Variable → Tree) → Simple signature s → (c : List Lit) → EachLit (λ l. IsPure signature l.left × IsPure signature l.right) c → is_background signature (put_clause s c) ≡ true
 background-put signature s simple [] h = refl
 background-put signature s simple (l ∷ ls) h =
@@ -113,14 +121,10 @@ child-with : (n : ℕ) (t x new : Tree) → child n t ≡ Some x → child n (wi
 child-with n (var v) x new h = cc
 child-with n (node f xs) x new h = argument-with (argument_number f n) xs x new h
 
-first_of : (path : List ℕ) (o : Option Tree) (u : Tree) → option_and_then (at_path path) o ≡ Some u → (x : Tree) × ((o ≡ Some x) × (at_path path x ≡ Some u))
-first_of path None u h = cc
-first_of path (Some x) u h = (x, (refl, h))
-
 at_path-put_at : (path : List ℕ) (t u new : Tree) → at_path path t ≡ Some u → at_path path (put_at path new t) ≡ Some new
 at_path-put_at [] t u new h = refl
 at_path-put_at (n ∷ path) t u new h =
-    let f = first_of path (child n t) u h in
+    let f = first_of (at_path path) (child n t) u h in
     ap (λ o. option_and_then (at_path path) (child n (put_child (put_at path new) n t o))) f.1.0
     ∙ ap (option_and_then (at_path path)) (child-with n t f.0 (put_at path new f.0) f.1.0)
     ∙ at_path-put_at path f.0 u new f.1.1
@@ -134,13 +138,9 @@ item-changed n [] l new h = cc
 item-changed zero (m ∷ ms) l new h = refl
 item-changed (suc n) (m ∷ ms) l new h = item-changed n ms l new h
 
-lit_of : (p : Place) (o : Option Lit) (u : Tree) → option_and_then (λ l. at_path p.path (named p.side l)) o ≡ Some u → (l : Lit) × ((o ≡ Some l) × (at_path p.path (named p.side l) ≡ Some u))
-lit_of p None u h = cc
-lit_of p (Some l) u h = (l, (refl, h))
-
 module _ (c : List Lit) (p : Place) (u : Tree) (there : tree_at c p ≡ Some u) where
   found : (l : Lit) × ((item p.literal c ≡ Some l) × (at_path p.path (named p.side l) ≡ Some u))
-  found = lit_of p (item p.literal c) u there
+  found = first_of (λ l. at_path p.path (named p.side l)) (item p.literal c) u there
 
   replaced-is : (new : Tree) → replaced c p new ≡ changed p.literal (put_place p new found.0) c
   replaced-is new = ap (λ o. option_map_or (λ l. changed p.literal (put_place p new l) c) o c) found.1.0
@@ -185,7 +185,7 @@ module _ (signature : List Symbol) where
   sort-put_at : (path : List ℕ) (t u new : Tree) → at_path path t ≡ Some u → sort signature new ≡ sort signature u → sort signature (put_at path new t) ≡ sort signature t
   sort-put_at [] t u new h e = let is : t ≡ u = cc in e ∙ sym (ap (sort signature) is)
   sort-put_at (n ∷ path) t u new h e =
-      let f = first_of path (child n t) u h in
+      let f = first_of (at_path path) (child n t) u h in
       ap (λ o. sort signature (put_child (put_at path new) n t o)) f.1.0
       ∙ sort-with_child n t f.0 (put_at path new f.0) f.1.0 (sort-put_at path f.0 u new f.1.1 e)
 
@@ -207,9 +207,13 @@ module _ (signature : List Symbol) where
       (sorted-with_side p.side (put_at p.path new (named p.side f.0)) f.0 (sort-put_at p.path (named p.side f.0) u new f.1.1 e))
 
 -- weights
-nodes_all : (ts : List Term) → Each (λ t. nodes t ≤ weight (tree t)) ts → total (map nodes ts) ≤ weight_all (trees (map tree ts))
+nodes_all : (ts : List Term) → Each (λ t. nodes t ≤ weight (tree t)) ts → sum (map nodes ts) ≤ weight_all (trees (map tree ts))
 nodes_all [] all = omega arith
-nodes_all (t ∷ ts) all = let one = all.0 in let rest = nodes_all ts all.1 in omega arith
+nodes_all (t ∷ ts) all =
+    let one = all.0 in
+    let rest = nodes_all ts all.1 in
+    let split : sum (map nodes (t ∷ ts)) ≡ nodes t + sum (map nodes ts) = sum_by-cons (λ n. n) (nodes t) (map nodes ts) in
+    rw split (omega arith)
 
 pub nodes-weight : (t : Term) → nodes t ≤ weight (tree t)
 nodes-weight = term_induction (λ t. nodes t ≤ weight (tree t))

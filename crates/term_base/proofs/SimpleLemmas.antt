@@ -1,5 +1,6 @@
 -- The test of a simple substitution is right.
-use Rattle.std.proofs.Common.{◌≡◌, ◌<◌, ℕ, suc, Bool, true, false, ◌||◌, not, List, [], ◌∷◌, length, refl, ap, sym, ◌∙◌, subst, arith, inl, inr}
+use Rattle.std.proofs.Common.{◌≡◌, ◌<◌, ℕ, suc, true, ◌||◌, not, List, [], ◌∷◌, length, refl, ap, sym, ◌∙◌, subst, arith, inl, inr}
+use Rattle.std.proofs.lemmas.Bool.{not-true}
 use Rattle.std.specs.Prelude.{Option, Some, None}
 use Rattle.std.specs.List.{slice_index_or}
 use Rattle.term_base.specs.declared.symbols.Sort.{Sort}
@@ -20,10 +21,6 @@ use Rattle.term_base.proofs.Ascending.{image-found}
 pub has_sort-true : (o : Option Sort) (s : Sort) → has_sort o s ≡ true → o ≡ Some s
 has_sort-true None s h = cc
 has_sort-true (Some r) s h = ap Some (same_sort-true r s h)
-
-pub not-true : (b : Bool) → not b ≡ true → b ≡ false
-not-true true h = cc
-not-true false h = refl
 
 module _ (signature : List Symbol) where
   pure-test : (t : Tree) → is_pure_tree signature t ≡ true → IsPure signature t

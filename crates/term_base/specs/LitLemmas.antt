@@ -1,6 +1,7 @@
 -- Places and substitution.
 use Rattle.std.proofs.Common.{◌≡◌, ℕ, zero, suc, true, List, [], ◌∷◌, ◌++◌, refl, ap, sym, ◌∙◌, subst}
-use Rattle.std.specs.Prelude.{Option, Some, None}
+use Rattle.std.proofs.lemmas.Option.{option_and_then_some}
+use Rattle.std.specs.Prelude.{Option, Some}
 use Rattle.std.specs.Option.{option_and_then}
 use Rattle.term_base.specs.declared.variables.Variable.{Variable}
 use Rattle.term_base.specs.declared.places.Side.{Side}
@@ -11,6 +12,10 @@ use Rattle.term_base.specs.Lits.{Lit, put_lit, put_clause, lit_occurs, clause_oc
 use Rattle.term_base.specs.Places.{named, other, with_side, left_out, changed, item, argument, with_argument, argument_number, child, with_child, at_path, put_at, put_child}
 use Rattle.term_base.specs.TreeLemmas.{or-left, or-right}
 use Rattle.term_base.specs.SubstLemmas.{put_in-put_in, put_in-agree}
+
+-- what the first of two partial functions gave where both gave something
+pub first_of : {A B : Type 0} (f : A → Option B) (o : Option A) (y : B) → option_and_then f o ≡ Some y → (x : A) × ((o ≡ Some x) × (f x ≡ Some y))
+first_of f o y h = option_and_then_some f o y h (λ x is there. (x, (is, there)))
 
 module _ (s : Variable → Tree) where
   argument_put : (n : ℕ) (xs : Trees) (x : Tree) → argument n xs ≡ Some x → argument n (put_all s xs) ≡ Some (put_in s x)
@@ -31,21 +36,17 @@ module _ (s : Variable → Tree) where
   with_child_put n new (var v) x h = cc
   with_child_put n new (node f xs) x h = ap (node f) (with_argument_put (argument_number f n) new xs)
 
-  first_of : (path : List ℕ) (o : Option Tree) (u : Tree) → option_and_then (at_path path) o ≡ Some u → (x : Tree) × ((o ≡ Some x) × (at_path path x ≡ Some u))
-  first_of path None u h = cc
-  first_of path (Some x) u h = (x, (refl, h))
-
   -- a place stays, and has the instance
   pub at_path-put : (path : List ℕ) (t u : Tree) → at_path path t ≡ Some u → at_path path (put_in s t) ≡ Some (put_in s u)
   at_path-put [] t u h = let e : t ≡ u = cc in ap (λ z. Some (put_in s z)) e
   at_path-put (n ∷ path) t u h =
-      let f = first_of path (child n t) u h in
+      let f = first_of (at_path path) (child n t) u h in
       ap (option_and_then (at_path path)) (child_put n t f.0 f.1.0) ∙ at_path-put path f.0 u f.1.1
 
   pub put_at-put : (path : List ℕ) (new t u : Tree) → at_path path t ≡ Some u → put_at path (put_in s new) (put_in s t) ≡ put_in s (put_at path new t)
   put_at-put [] new t u h = refl
   put_at-put (n ∷ path) new t u h =
-      let f = first_of path (child n t) u h in
+      let f = first_of (at_path path) (child n t) u h in
       ap (put_child (put_at path (put_in s new)) n (put_in s t)) (child_put n t f.0 f.1.0)
       ∙ ap (λ z. with_child n z (put_in s t)) (put_at-put path new f.0 u f.1.1)
       ∙ with_child_put n (put_at path new f.0) t f.0 f.1.0

@@ -61,7 +61,8 @@ pub fn abstraction_variables_are_integers()
 /// A clause whose sides are all Pure is a background clause, and stays one under a simple substitution. (An
 /// ordinary variable may go to a foreground term, so other background clauses need not stay.)
 pub fn background_stays_background()
-    ensures { (signature : List Symbol) (s : Variable → Tree) → Simple signature s → (c : List Lit) → EachLit (λ l. IsPure signature l.left × IsPure signature l.right) c → is_background signature (put_clause s c) ≡ true }
+    ensures pure { (signature : List Symbol) (c : List Lit) → EachLit (λ l. IsPure signature l.left × IsPure signature l.right) c → is_background signature c ≡ true }
+    ensures stays { (signature : List Symbol) (s : Variable → Tree) → Simple signature s → (c : List Lit) → EachLit (λ l. IsPure signature l.left × IsPure signature l.right) c → is_background signature (put_clause s c) ≡ true }
 {}
 
 /// A term of sort Int without a foreground symbol has variables of sort Int alone.

@@ -1,6 +1,6 @@
 //! Substitutions as lists of pairs.
 
-ghost use Rattle.std.specs.Prelude.{◌≡◌, ◌↔◌, [], IsTrue, IsSome, IfSome, IfOk, MatchOption};
+ghost use Rattle.std.specs.Prelude.{◌≡◌, ◌≢◌, ◌↔◌, [], IsTrue, IsSome, IfSome, IfOk, MatchOption};
 ghost use Rattle.term_base.specs.Substitution.{IsSubstitution, image};
 ghost use Rattle.term_base.specs.SubstTest.{follows, ascends_after};
 ghost use Rattle.term_base.specs.SameTerm.{same_term};
@@ -76,9 +76,10 @@ impl Subst {
         self.pairs.as_slice()
     }
 
-    /// The term that stands for a variable, found by binary search; None where the variable stands for itself.
+    /// The term that stands for a variable, found by binary search; None exactly where the variable stands
+    /// for itself.
     pub fn get(&self, v: Variable) -> Option<&Term>
-        ensures { MatchOption result (image self.now v ≡ var v) (λ t. image self.now v ≡ tree t.now) }
+        ensures { MatchOption result (image self.now v ≡ var v) (λ t. (image self.now v ≡ tree t.now) × (image self.now v ≢ var v)) }
     {
         find(self.pairs(), v)
     }
@@ -106,7 +107,7 @@ fn copy_pairs(
 
 fn find(pairs: &[(Variable, Term)], v: Variable) -> Option<&Term>
     requires { IsSubstitution pairs.now }
-    ensures { MatchOption result (image pairs.now v ≡ var v) (λ t. image pairs.now v ≡ tree t.now) }
+    ensures { MatchOption result (image pairs.now v ≡ var v) (λ t. (image pairs.now v ≡ tree t.now) × (image pairs.now v ≢ var v)) }
 {
     match pairs.binary_search_by_key(&v, |pair| pair.0) {
         Ok(at) => Some(&pairs[at].1),

@@ -301,3 +301,189 @@ fn a_clause_is_substituted(rt: HostRuntime) -> Result<(), Fail> {
     assert!(rt; is_number(place_term(&[], &c, &place), 7));
     Ok(())
 }
+
+// a = b, c != d
+fn two_literals(alloc: Global, a: i128, b: i128, c: i128, d: i128) -> Result<Clause, AllocError> {
+    let mut literals = Items::new(alloc);
+    literals.push(Literal::Equal(Term::Num(a), Term::Num(b)))?;
+    literals.push(Literal::Differ(Term::Num(c), Term::Num(d)))?;
+    Ok(Clause { literals })
+}
+
+// the clause with 3 at a place
+fn with_three(
+    alloc: Global,
+    c: &Clause,
+    literal: u32,
+    side: Side,
+    path: &[u32],
+) -> Result<Clause, AllocError> {
+    let path = Path::from_slice(alloc, path)?;
+    replace_at(
+        alloc,
+        &[],
+        c,
+        &Place {
+            literal,
+            side,
+            path,
+        },
+        &Term::Num(3),
+    )
+}
+
+// 0 = 1, 2 != 4 with 3 for a side
+fn side_replaced(alloc: Global, literal: u32, side: Side) -> Result<Clause, AllocError> {
+    with_three(alloc, &two_literals(alloc, 0, 1, 2, 4)?, literal, side, &[])
+}
+
+#[test]
+fn sides_of_an_equation_are_replaced(rt: HostRuntime) -> Result<(), Fail> {
+    let left = side_replaced(rt.alloc(), 0, Side::Left)?;
+    assert!(rt; left.same(&two_literals(rt.alloc(), 3, 1, 2, 4)?));
+    let right = side_replaced(rt.alloc(), 0, Side::Right)?;
+    assert!(rt; right.same(&two_literals(rt.alloc(), 0, 3, 2, 4)?));
+    Ok(())
+}
+
+#[test]
+fn sides_of_a_disequation_are_replaced(rt: HostRuntime) -> Result<(), Fail> {
+    let left = side_replaced(rt.alloc(), 1, Side::Left)?;
+    assert!(rt; left.same(&two_literals(rt.alloc(), 0, 1, 3, 4)?));
+    let right = side_replaced(rt.alloc(), 1, Side::Right)?;
+    assert!(rt; right.same(&two_literals(rt.alloc(), 0, 1, 2, 3)?));
+    Ok(())
+}
+
+// there is no third literal
+#[test]
+fn a_missing_literal_is_not_replaced(rt: HostRuntime) -> Result<(), Fail> {
+    let c = side_replaced(rt.alloc(), 2, Side::Left)?;
+    assert!(rt; c.same(&two_literals(rt.alloc(), 0, 1, 2, 4)?));
+    Ok(())
+}
+
+// 3 for 1 in A0 <= 1
+#[test]
+fn a_right_side_of_an_inequality_is_replaced(rt: HostRuntime) -> Result<(), Fail> {
+    let c = with_three(
+        rt.alloc(),
+        &at_most_one(rt.alloc(), a0())?,
+        0,
+        Side::Right,
+        &[],
+    )?;
+    let mut literals = Items::new(rt.alloc());
+    literals.push(Literal::AtMost(a0(), Term::Num(3)))?;
+    assert!(rt; c.same(&Clause { literals }));
+    Ok(())
+}
+
+// s1(a, b, c)
+fn three_arguments(alloc: Global, a: i128, b: i128, c: i128) -> Result<Term, AllocError> {
+    let mut args = Items::new(alloc);
+    args.push(Term::Num(a))?;
+    args.push(Term::Num(b))?;
+    args.push(Term::Num(c))?;
+    Ok(Term::App(1, args))
+}
+
+// whether t <= 1 with 3 at a path into t is u <= 1
+fn is_put(alloc: Global, t: Term, path: &[u32], u: Term) -> Result<bool, AllocError> {
+    let c = with_three(alloc, &at_most_one(alloc, t)?, 0, Side::Left, path)?;
+    Ok(c.same(&at_most_one(alloc, u)?))
+}
+
+#[test]
+fn an_argument_beside_others_is_replaced(rt: HostRuntime) -> Result<(), Fail> {
+    let t = three_arguments(rt.alloc(), 0, 1, 2)?;
+    let u = three_arguments(rt.alloc(), 0, 3, 2)?;
+    assert!(rt; is_put(rt.alloc(), t, &[1], u)?);
+    Ok(())
+}
+
+// an argument in a sum
+#[test]
+fn a_path_goes_into_a_sum(rt: HostRuntime) -> Result<(), Fail> {
+    let t = Term::sum(rt.alloc(), a0(), three_arguments(rt.alloc(), 0, 1, 2)?)?;
+    let u = Term::sum(rt.alloc(), a0(), three_arguments(rt.alloc(), 0, 1, 3)?)?;
+    assert!(rt; is_put(rt.alloc(), t, &[1, 2], u)?);
+    Ok(())
+}
+
+// the variable in 2 * (A0 + 1)
+#[test]
+fn a_path_goes_into_a_product(rt: HostRuntime) -> Result<(), Fail> {
+    let t = Term::scale(rt.alloc(), 2, Term::sum(rt.alloc(), a0(), Term::Num(1))?)?;
+    let u = Term::scale(
+        rt.alloc(),
+        2,
+        Term::sum(rt.alloc(), Term::Num(3), Term::Num(1))?,
+    )?;
+    assert!(rt; is_put(rt.alloc(), t, &[0, 0], u)?);
+    Ok(())
+}
+
+// an application of three arguments has no fourth, and a variable no child
+#[test]
+fn a_missing_child_is_not_replaced(rt: HostRuntime) -> Result<(), Fail> {
+    let t = three_arguments(rt.alloc(), 0, 1, 2)?;
+    let u = three_arguments(rt.alloc(), 0, 1, 2)?;
+    assert!(rt; is_put(rt.alloc(), t, &[3], u)?);
+    assert!(rt; is_put(rt.alloc(), a0(), &[0], a0())?);
+    Ok(())
+}
+
+// a sum has no third part, and a number times a term no second
+#[test]
+fn a_missing_part_is_not_replaced(rt: HostRuntime) -> Result<(), Fail> {
+    let t = Term::sum(rt.alloc(), a0(), Term::Num(1))?;
+    let u = Term::sum(rt.alloc(), a0(), Term::Num(1))?;
+    assert!(rt; is_put(rt.alloc(), t, &[2], u)?);
+    let c = with_three(rt.alloc(), &bound(rt.alloc())?, 0, Side::Left, &[1])?;
+    assert!(rt; c.same(&bound(rt.alloc())?));
+    Ok(())
+}
+
+// (2 * A0) <= 1 has no second child on the left
+#[test]
+fn a_missing_place_is_none(rt: HostRuntime) -> Result<(), Fail> {
+    let c = bound(rt.alloc())?;
+    let place = left_child(rt.alloc(), 1)?;
+    assert!(rt; !has_place(&[], &c, &place));
+    assert!(rt; place_term(&[], &c, &place).is_none());
+    Ok(())
+}
+
+fn a1() -> Term {
+    Term::Var(Variable::abstraction(1))
+}
+
+// A1 and true under 7 for A0
+#[test]
+fn a_variable_without_a_pair_stays(rt: HostRuntime) -> Result<(), Fail> {
+    let s = seven(rt.alloc())?;
+    let t = apply(rt.alloc(), &[], &a1(), &s)?;
+    assert!(rt; t.same(&a1()));
+    let t = apply(rt.alloc(), &[], &Term::True, &s)?;
+    assert!(rt; t.same(&Term::True));
+    Ok(())
+}
+
+// A0 != A1 under 7 for A0
+#[test]
+fn a_disequation_is_substituted(rt: HostRuntime) -> Result<(), Fail> {
+    let s = seven(rt.alloc())?;
+    let l = apply_literal(rt.alloc(), &[], &Literal::Differ(a0(), a1()), &s)?;
+    assert!(rt; l.same(&Literal::Differ(Term::Num(7), a1())));
+    Ok(())
+}
+
+// true != 1
+#[test]
+fn a_disequation_is_copied(rt: HostRuntime) -> Result<(), Fail> {
+    let copy = Literal::Differ(Term::True, Term::Num(1)).copy(rt.alloc())?;
+    assert!(rt; copy.same(&Literal::Differ(Term::True, Term::Num(1))));
+    assert!(rt; !copy.same(&Literal::Equal(Term::True, Term::Num(1))));
+    Ok(())
+}

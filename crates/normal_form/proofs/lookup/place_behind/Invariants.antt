@@ -1,4 +1,4 @@
-use Rattle.std.proofs.Common.{ℕ, ◌≡◌, ◌≢◌, ◌≤◌, ◌<◌, length}
+use Rattle.std.proofs.Common.{ℕ, ◌≢◌, ◌≤◌, ◌<◌, length}
 use Rattle.normal_form.specs.Lookup.{number_at}
 use Rattle.normal_form.proofs.lookup.place_behind.Given as goal
 

@@ -1,4 +1,4 @@
-use Rattle.std.proofs.Common.{rules, ◌≡◌, ℕ, min, take, ap, arith}
+use Rattle.std.proofs.Common.{rules, ◌≡◌, min, take, arith}
 use Rattle.std.proofs.lemmas.Grind.{common_steps}
 use Rattle.normal_form.proofs.Innermost.{ascends_shorter}
 use Rattle.normal_form.proofs.binders.Binders.leave_to.Goals as goal
