@@ -1,0 +1,2 @@
+pub mod ArgumentReads
+pub mod Accepted

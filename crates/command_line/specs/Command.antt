@@ -1,0 +1,85 @@
+-- The command and its six arguments, in the words of the library that reads them.
+use Rattle.std.specs.Prelude.{ℕ, ◌≤◌, Bool, true, false, not, ◌&&◌, ◌||◌, List, [], ◌∷◌, codes, Option, Some, is_some, option_map, unwrap_or, if◌then◌else◌}
+use Rattle.std.specs.Option.{option_map_or}
+use Rattle.std.specs.Str.{bytes_eq}
+use Rattle.std.specs.Str.Parse.{digits_value, without_leading_plus}
+use Rattle.clap.specs.Walk.{Row, Rule, Text, is_empty, one_of}
+use Rattle.clap.specs.Simple.{App, matches_of, new_rule, new_shape}
+use Rattle.clap.specs.Faults.{fault_of}
+use Rattle.clap.specs.declared.builder.action.ArgAction.TheVariants.{Set, SetTrue}
+use Rattle.clap.specs.declared.builder.value_parser.ValueParser.TheVariants as parser
+use Rattle.command_line.specs.declared.options.Mode.{Mode}
+use Rattle.command_line.specs.declared.options.Mode.TheVariants.{Prove, Check, Make}
+use Rattle.command_line.specs.declared.options.Options.{Options}
+
+-- ---- the command
+-- an option that takes one whole number from low to high
+abbrev pub number_rule : Text → ℕ → ℕ → Rule
+number_rule name low high = record (new_rule name) { long = Some name; action = Some Set; parser = Some (parser.Unsigned low high) }
+
+-- an option without a value
+abbrev pub flag_rule : Text → Rule
+flag_rule name = record (new_rule name) { long = Some name; action = Some SetTrue }
+
+-- the six arguments
+abbrev pub rules : List Rule
+rules =
+    number_rule (codes "workers") 1 8 ∷ number_rule (codes "turns") 1 1000000 ∷ number_rule (codes "judge-steps") 1 4294967295
+    ∷ flag_rule (codes "ordinary") ∷ flag_rule (codes "check") ∷ number_rule (codes "make") 0 4294967295 ∷ []
+
+-- the command, whose words don't begin with its name
+abbrev pub command : App
+command = record { top = record (new_shape (codes "beagle")) { no_binary_name = true; rules = rules }; subs = [] }
+
+-- ---- what the words give
+-- the number that a text spells
+abbrev pub number_in : Text → ℕ
+number_in text = digits_value 10 (without_leading_plus text)
+
+-- the number of an option, where it is there
+abbrev pub number_of : Text → List Row → Option ℕ
+number_of name rows = option_map number_in (one_of name rows)
+
+-- the number of an option, or else its default
+abbrev pub number_or : ℕ → Text → List Row → ℕ
+number_or default name rows = unwrap_or (number_of name rows) default
+
+-- the option without a value is there
+abbrev pub is_set : Text → List Row → Bool
+is_set name rows = option_map_or (λ text. bytes_eq text (codes "true")) (one_of name rows) false
+
+-- what the run does
+abbrev pub mode_of : List Row → Mode
+mode_of rows = if is_set (codes "check") rows then Check else option_map_or Make (number_of (codes "make") rows) Prove
+
+-- the options of a run
+abbrev pub options_in : List Row → Options
+options_in rows = record {
+  workers = number_or 2 (codes "workers") rows;
+  turns = number_or 5000 (codes "turns") rows;
+  judge_steps = number_or 200000 (codes "judge-steps") rows;
+  ordinary = is_set (codes "ordinary") rows;
+  mode = mode_of rows;
+}
+
+-- the options that the words give
+abbrev pub options_of : List Text → Options
+options_of words = options_in (matches_of command words)
+
+-- ---- refusals
+-- `--check` stands beside `--make`
+abbrev pub asks_both : List Row → Bool
+asks_both rows = is_set (codes "check") rows && is_some (number_of (codes "make") rows)
+
+-- the command refuses the words, for help too, or they ask for both jobs
+abbrev pub is_usage : List Text → Bool
+is_usage words = not (is_empty (fault_of command words)) || asks_both (matches_of command words)
+
+-- ---- ranges
+-- the number lies between these two
+abbrev pub IsBetween : ℕ → ℕ → ℕ → Type 0
+IsBetween low high n = (low ≤ n) × (n ≤ high)
+
+-- each number of the options lies in its range
+abbrev pub AreInRange : Options → Type 0
+AreInRange o = IsBetween 1 8 o.workers × IsBetween 1 1000000 o.turns × IsBetween 1 4294967295 o.judge_steps

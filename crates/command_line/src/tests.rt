@@ -1,0 +1,124 @@
+//! Lines of words, and the options that they give.
+
+use crate::{Mode, Options, WordsFault, options_of};
+use std::alloc::{AllocError, Global};
+use std::test::Fail;
+
+const DEFAULTS: Options = Options {
+    workers: 2,
+    turns: 5000,
+    judge_steps: 200_000,
+    ordinary: false,
+    mode: Mode::Prove,
+};
+
+fn split(alloc: Global, line: &str) -> Result<Vec<String>, AllocError> {
+    let mut words = Vec::new(alloc);
+    for word in line.split(' ') {
+        words.push(String::from_str(alloc, word)?)?;
+    }
+    Ok(words)
+}
+
+#[test]
+fn given(rt: HostRuntime) -> Result<(), Fail> {
+    let alloc = rt.alloc();
+    assert_eq!(rt; options_of(alloc, &Vec::new(alloc)), Ok(DEFAULTS));
+    let rows = [
+        (
+            "--workers 8 --turns 1000000 --judge-steps 4294967295",
+            Options {
+                workers: 8,
+                turns: 1_000_000,
+                judge_steps: 4_294_967_295,
+                ..DEFAULTS
+            },
+        ),
+        (
+            "--judge-steps=1 --turns=1 --workers=1",
+            Options {
+                workers: 1,
+                turns: 1,
+                judge_steps: 1,
+                ..DEFAULTS
+            },
+        ),
+        (
+            "--ordinary --check",
+            Options {
+                ordinary: true,
+                mode: Mode::Check,
+                ..DEFAULTS
+            },
+        ),
+        (
+            "--make 0",
+            Options {
+                mode: Mode::Make(0),
+                ..DEFAULTS
+            },
+        ),
+        (
+            "--make 4294967295 --ordinary",
+            Options {
+                ordinary: true,
+                mode: Mode::Make(4_294_967_295),
+                ..DEFAULTS
+            },
+        ),
+    ];
+    for (line, options) in rows {
+        let words = split(alloc, line)?;
+        assert_eq!(rt; options_of(alloc, &words), Ok(options), "{line}");
+    }
+    Ok(())
+}
+
+#[test]
+fn refused(rt: HostRuntime) -> Result<(), Fail> {
+    let alloc = rt.alloc();
+    let lines = [
+        "",
+        "-",
+        "--",
+        "x",
+        "-x",
+        "--help",
+        "-h",
+        "--version",
+        "-V",
+        "help",
+        "--workers",
+        "--workers 0",
+        "--workers 9",
+        "--workers x",
+        "--turns 0",
+        "--turns 1000001",
+        "--judge-steps 0",
+        "--judge-steps 4294967296",
+        "--make",
+        "--make -1",
+        "--make 4294967296",
+        "--workers 2 --workers 2",
+        "--ordinary=true",
+        "--check x",
+        "--check --make 1",
+        "--make 1 --check",
+        "--work 2",
+        "--Workers 2",
+    ];
+    for line in lines {
+        let words = split(alloc, line)?;
+        let got = options_of(alloc, &words);
+        assert_eq!(rt;
+            got,
+            if line == "--" {
+                Ok(DEFAULTS)
+            } else {
+                Err(WordsFault::Usage)
+            },
+            "{line}"
+        );
+    }
+    Ok(())
+}
