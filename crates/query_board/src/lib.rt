@@ -1,0 +1,10 @@
+//! The board of queries: what each asks, and how far it has come.
+#![tactic(auto)]
+
+mod board;
+mod queries;
+#[cfg(test)]
+mod tests;
+
+pub use board::Board;
+pub use queries::{Asked, Mark, Posted, Stamp};
