@@ -204,11 +204,11 @@ fn a_statement(rt: HostRuntime) {
     let text: &[u8] = b"tff(name,conjecture,p<='Q').";
     let statements = parse(rt.alloc(), text).expect(&rt, "memory");
     let statement = statements.get(0).expect(&rt, "one statement");
-    assert_eq!(rt; statement.name.bytes(text), b"name");
+    assert_eq!(rt; statement.name.bytes(text), b"name".as_slice());
     let (link, left, right) = linked_words(text, &statement.content).expect(&rt, "two words");
     assert_eq!(rt; link, Link::Implied);
-    assert_eq!(rt; left, b"p");
-    assert_eq!(rt; right, b"'Q'");
+    assert_eq!(rt; left, b"p".as_slice());
+    assert_eq!(rt; right, b"'Q'".as_slice());
 }
 
 #[test]
