@@ -15,3 +15,5 @@ pub mod Stops
 pub mod Spans
 pub mod Determined
 pub mod Rows
+pub mod Order
+pub mod SomeAnswer

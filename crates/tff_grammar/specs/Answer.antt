@@ -1,5 +1,5 @@
 -- What the bytes of a text give: its statements, or its first fault.
-use Rattle.std.specs.Prelude.{◌≡◌, ℕ, ◌-◌, List, length, Option, Some, None, is_some, slice_get}
+use Rattle.std.specs.Prelude.{◌≡◌, ◌⊎◌, ℕ, ◌-◌, List, length, Option, Some, None, is_some, slice_get}
 use Rattle.tff_lexer.specs.declared.spans.Token.{Token}
 use Rattle.tff_lexer.specs.Scans.{Scans}
 use Rattle.tff_grammar.specs.declared.faults.FaultName.{FaultName}
@@ -42,6 +42,10 @@ pub record IsFirstFault (bytes : List ℕ) (fault : Fault) : Type 0 where
   pub first : IsFirst pieces (is_some stop) at fault.name
   pub token : fault.token ≡ slice_get tokens at
   pub place : fault.at ≡ byte_of (end_place (length bytes) stop) fault.token
+
+-- The bytes are a text without a fault, or have a first fault.
+abbrev pub HasAnswer : List ℕ → Type 0
+HasAnswer bytes = ((statements : List Statement) × IsText bytes statements) ⊎ ((fault : Fault) × IsFirstFault bytes fault)
 
 -- Memory ran out, or this is the first fault.
 abbrev pub Explains : List ℕ → ParseError → Type 0

@@ -14,6 +14,7 @@ use Rattle.tff_grammar.specs.Grammar.{FileTree, has_one}
 use Rattle.tff_grammar.specs.Meaning.{file_of}
 use Rattle.tff_grammar.specs.Text.{Leveleds, file_text}
 
+-- the most levels that may be open
 abbrev pub max_levels : ℕ
 max_levels = 500
 
@@ -23,6 +24,7 @@ max_levels = 500
 abbrev pub pieces_of : Leveleds → List Piece
 pieces_of = map (λ t. t.0)
 
+-- no token stands in more
 abbrev pub IsShallow : Leveleds → Type 0
 IsShallow = AllByRecursion (λ t. t.1 ≤ max_levels)
 
@@ -60,6 +62,7 @@ GoesOnDeeper front = (file : FileTree) × IsTrue (has_one file false) × Begins 
 
 -- ---- places
 
+-- These tokens are a text without a fault, so a statement may begin behind them.
 abbrev pub AtStart : List Piece → Type 0
 AtStart front = (file : FileTree) × Spells file front
 
@@ -78,6 +81,7 @@ AtMostLevels front =
 
 -- ---- names
 
+-- a token that opens a level: `(`, `~` or a quantifier
 abbrev pub IsOpener : Piece → Type 0
 IsOpener (piece.Sign OpenRound) = Unit {0}
 IsOpener (piece.Sign Not) = Unit {0}

@@ -67,6 +67,7 @@ mutual
     no_arguments : ArgumentsTree
     arguments : TermTree → TermsTree → ArgumentsTree
 
+  -- terms ::= { ',' term }
   pub data TermsTree : Type 0 where
     no_terms : TermsTree
     next_term : TermTree → TermsTree → TermsTree
@@ -100,6 +101,7 @@ mutual
     linked : Link → UnitTree → TailTree
     joined : Junction → UnitTree → UnitsTree → TailTree
 
+  -- units ::= { unit }, each behind the sign of the chain
   pub data UnitsTree : Type 0 where
     no_units : UnitsTree
     next_unit : UnitTree → UnitsTree → UnitsTree
@@ -143,12 +145,13 @@ pub data FileTree : Type 0 where
   no_statements : FileTree
   next_statement : StatementTree → FileTree → FileTree
 
--- at most one statement is a conjecture, and none where one came before
+-- A statement is a conjecture only where none came before (`again`), and the further ones hold by whether one has come.
 abbrev pub one_from : Bool → BodyTree → (Bool → Bool) → Bool
 one_from again (declaration s w) more = more again
 one_from again (premise s g) more = more again
 one_from again (conjecture s g) more = not again && more true
 
+-- at most one statement is a conjecture, and none where one came before
 abbrev pub has_one : FileTree → Bool → Bool
 has_one no_statements again = true
 has_one (next_statement s more) again = one_from again s.body (has_one more)

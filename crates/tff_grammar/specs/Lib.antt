@@ -7,3 +7,5 @@ pub mod Notes
 pub mod Words
 pub mod Pieces
 pub mod Answer
+pub mod TreeFolds
+pub mod Order

@@ -36,6 +36,7 @@ use Rattle.tff_grammar.specs.FirstFault.{max_levels}
 
 -- ---- what must still come
 
+-- one thing that must come
 pub data Symbol : Type 0 where
   -- statements, behind a conjecture or not
   statements : Bool → Symbol
@@ -86,6 +87,7 @@ pub data Symbol : Type 0 where
   second : Symbol
   after_relation : Relation → Symbol
 
+-- all that must come, the next one first
 abbrev pub Stack : Type 0
 Stack = List Symbol
 
@@ -103,6 +105,7 @@ raise (bound q) n = n + 1
 raise more_terms n = n + 1
 raise s n = n
 
+-- the levels that are open
 abbrev pub levels : Stack → ℕ
 levels [] = 0
 levels (s ∷ k) = raise s (levels k)
@@ -129,6 +132,7 @@ pub data Answer : Type 0 where
 
 -- ---- the table
 
+-- the two are one sign
 abbrev pub same_sign : Sign → Sign → Bool
 same_sign OpenRound OpenRound = true
 same_sign CloseRound CloseRound = true
@@ -142,36 +146,43 @@ same_sign Star Star = true
 same_sign Arrow Arrow = true
 same_sign _ _ = false
 
+-- the two are one sign
 abbrev pub same_junction : Junction → Junction → Bool
 same_junction And And = true
 same_junction Or Or = true
 same_junction _ _ = false
 
+-- where a statement may begin
 abbrev pub at_statements : Bool → Piece → Answer
 at_statements again (piece.Lower Tff s) = takes (sign OpenRound ∷ a_name ∷ sign Comma ∷ role again ∷ [])
 at_statements again p = refuses
 
+-- where this sign must come
 abbrev pub at_sign : Sign → Piece → Answer
 at_sign s (piece.Sign t) = cond (same_sign s t) (takes []) refuses
 at_sign s p = refuses
 
+-- where a statement's name must come
 abbrev pub at_name : Piece → Answer
 at_name (piece.Lower k s) = takes []
 at_name (piece.Quoted s) = takes []
 at_name (piece.Numeral m) = takes []
 at_name p = refuses
 
+-- where a role must come
 abbrev pub at_role : Bool → Piece → Answer
 at_role again (piece.Lower Declaration s) = takes (sign Comma ∷ typing ∷ ending ∷ statements again ∷ [])
 at_role again (piece.Lower Premise s) = takes (sign Comma ∷ unit ∷ tail ∷ ending ∷ statements again ∷ [])
 at_role false (piece.Lower Conjecture s) = takes (sign Comma ∷ unit ∷ tail ∷ ending ∷ statements true ∷ [])
 at_role again p = refuses
 
+-- where a statement ends
 abbrev pub at_ending : Piece → Answer
 at_ending (piece.Sign Comma) = takes (notes ∷ sign CloseRound ∷ sign Dot ∷ [])
 at_ending (piece.Sign CloseRound) = takes (sign Dot ∷ [])
 at_ending p = refuses
 
+-- in annotations
 abbrev pub at_notes : Piece → Answer
 at_notes (piece.Sign OpenRound) = opens (notes ∷ close ∷ notes ∷ [])
 at_notes (piece.Sign OpenSquare) = takes (notes ∷ sign CloseSquare ∷ notes ∷ [])
@@ -180,6 +191,7 @@ at_notes (piece.Sign CloseSquare) = leaves
 at_notes piece.WideNumeral = refuses
 at_notes p = takes (notes ∷ [])
 
+-- where a typing must come
 abbrev pub at_typing : Piece → Answer
 at_typing (piece.Lower k s) = takes (sign Colon ∷ type ∷ [])
 at_typing (piece.Quoted s) = takes (sign Colon ∷ type ∷ [])
@@ -193,41 +205,49 @@ at_sort k (piece.Quoted s) = takes k
 at_sort k (piece.Basic b) = takes k
 at_sort k p = refuses
 
+-- where a type must come
 abbrev pub at_type : Piece → Answer
 at_type piece.OfTypes = takes []
 at_type (piece.Sign OpenRound) = opens (in_type ∷ [])
 at_type piece.Truth = looks unbracketed (no_arrow ∷ [])
 at_type p = at_sort (result ∷ []) p
 
+-- behind the first sort of a type
 abbrev pub at_result : Piece → Answer
 at_result (piece.Sign Arrow) = takes (result_sort ∷ [])
 at_result p = leaves
 
+-- behind a `>`
 abbrev pub at_result_sort : Piece → Answer
 at_result_sort piece.Truth = takes []
 at_result_sort p = at_sort [] p
 
+-- behind the bracket that a type begins with
 abbrev pub at_in_type : Piece → Answer
 at_in_type piece.OfTypes = takes (close ∷ [])
 at_in_type (piece.Sign OpenRound) = opens (in_type ∷ close ∷ [])
 at_in_type piece.Truth = looks bracketed (close ∷ no_arrow ∷ [])
 at_in_type p = at_sort (in_args ∷ []) p
 
+-- behind the first sort in it
 abbrev pub at_in_args : Piece → Answer
 at_in_args (piece.Sign CloseRound) = takes (result ∷ [])
 at_in_args (piece.Sign Star) = takes (argument ∷ [])
 at_in_args (piece.Sign Arrow) = takes (result_sort ∷ close ∷ [])
 at_in_args p = refuses
 
+-- behind a further sort in it
 abbrev pub at_more_args : Piece → Answer
 at_more_args (piece.Sign Star) = takes (argument ∷ [])
 at_more_args (piece.Sign CloseRound) = takes (arrow_result ∷ [])
 at_more_args p = refuses
 
+-- behind the bracket round several sorts
 abbrev pub at_arrow_result : Piece → Answer
 at_arrow_result (piece.Sign Arrow) = takes (result_sort ∷ [])
 at_arrow_result p = refuses
 
+-- behind a `$o`
 abbrev pub at_no_arrow : Piece → Answer
 at_no_arrow (piece.Sign Arrow) = refuses
 at_no_arrow p = leaves
@@ -241,6 +261,7 @@ at_term k (piece.Quoted s) = takes (arguments ∷ k)
 at_term k (piece.Operation o s) = takes (arguments ∷ k)
 at_term k p = refuses
 
+-- where a unit must come
 abbrev pub at_unit : Piece → Answer
 at_unit (piece.Sign Not) = opens (unit ∷ ended ∷ [])
 at_unit (piece.Quantifier q) = opens (sign OpenSquare ∷ binder ∷ sign Colon ∷ unit ∷ bound q ∷ [])
@@ -248,43 +269,52 @@ at_unit (piece.Sign OpenRound) = opens (unit ∷ tail ∷ close ∷ [])
 at_unit (piece.Constant b) = takes []
 at_unit p = at_term (second ∷ []) p
 
+-- behind a first unit
 abbrev pub at_tail : Piece → Answer
 at_tail (piece.Link l) = takes (unit ∷ after_link l ∷ [])
 at_tail (piece.Junction j) = takes (unit ∷ chain j ∷ [])
 at_tail p = leaves
 
+-- behind a member of a conjunction or a disjunction
 abbrev pub at_chain : Junction → Piece → Answer
 at_chain j (piece.Junction i) = cond (same_junction j i) (takes (unit ∷ chain j ∷ [])) leaves
 at_chain j p = leaves
 
+-- where a variable must come that a quantifier binds
 abbrev pub at_binder : Piece → Answer
 at_binder (piece.Upper s) = takes (after_binder ∷ [])
 at_binder p = refuses
 
+-- behind its name
 abbrev pub at_after_binder : Piece → Answer
 at_after_binder (piece.Sign Colon) = takes (binder_sort ∷ [])
 at_after_binder (piece.Sign Comma) = takes (binder ∷ [])
 at_after_binder (piece.Sign CloseSquare) = takes []
 at_after_binder p = refuses
 
+-- behind its sort
 abbrev pub at_more_binders : Piece → Answer
 at_more_binders (piece.Sign Comma) = takes (binder ∷ [])
 at_more_binders (piece.Sign CloseSquare) = takes []
 at_more_binders p = refuses
 
+-- behind a head
 abbrev pub at_arguments : Piece → Answer
 at_arguments (piece.Sign OpenRound) = opens (term ∷ more_terms ∷ [])
 at_arguments p = leaves
 
+-- behind an argument
 abbrev pub at_more_terms : Piece → Answer
 at_more_terms (piece.Sign Comma) = takes (term ∷ more_terms ∷ [])
 at_more_terms (piece.Sign CloseRound) = takes []
 at_more_terms p = refuses
 
+-- behind the first term of an atom
 abbrev pub at_second : Piece → Answer
 at_second (piece.Relation r) = takes (term ∷ after_relation r ∷ [])
 at_second p = leaves
 
+-- the whole table
 abbrev pub answer : Symbol → Piece → Answer
 answer (statements again) p = at_statements again p
 answer (sign s) p = at_sign s p
@@ -336,6 +366,7 @@ is_optional s = false
 
 -- ---- the name of a token that is refused
 
+-- the name of a token that opens a level where none may come, in so many levels
 abbrev pub deep_name : ℕ → FaultName
 deep_name level = cond (nat_lt level max_levels) n.Syntax n.TooDeep
 
@@ -348,29 +379,35 @@ plain_name level (piece.Sign Not) = deep_name level
 plain_name level (piece.Quantifier q) = deep_name level
 plain_name level p = n.Syntax
 
+-- where a statement may begin
 abbrev pub start_name : Piece → FaultName
 start_name (piece.Lower Include s) = n.Unsupported
 start_name (piece.Lower Language s) = n.Language
 start_name p = plain_name 0 p
 
+-- where a role must come
 abbrev pub role_name : ℕ → Piece → FaultName
 role_name level (piece.Lower Conjecture s) = n.TwoConjectures
 role_name level (piece.Lower k s) = n.Unsupported
 role_name level p = plain_name level p
 
+-- behind a `*`
 abbrev pub argument_name : ℕ → Piece → FaultName
 argument_name level piece.Truth = n.Unsupported
 argument_name level piece.OfTypes = n.Unsupported
 argument_name level p = plain_name level p
 
+-- behind a `>`
 abbrev pub result_name : ℕ → Piece → FaultName
 result_name level piece.OfTypes = n.Unsupported
 result_name level p = plain_name level p
 
+-- behind the `:` of a bound variable
 abbrev pub binder_name : ℕ → Piece → FaultName
 binder_name level piece.Truth = n.Unsupported
 binder_name level p = plain_name level p
 
+-- by what must come
 abbrev pub refused_name : Symbol → ℕ → Piece → FaultName
 refused_name (statements again) level p = start_name p
 refused_name (role again) level p = role_name level p
@@ -381,11 +418,13 @@ refused_name s level p = plain_name level p
 
 -- ---- one step
 
+-- what comes of a token
 pub data Step : Type 0 where
   -- the levels that the token stands in, and what comes behind it
   moved : Check → ℕ → Stack → Step
   stuck : FaultName → Step
 
+-- by what the first symbol does with it
 abbrev pub step_by : Answer → Symbol → Piece → Stack → Step → Step
 step_by (takes front) s p k behind = moved free (levels (s ∷ k)) (front ++ k)
 step_by (opens front) s p k behind = moved deepens (levels (s ∷ k) + 1) (front ++ k)
@@ -393,12 +432,14 @@ step_by (looks check front) s p k behind = moved check (levels (s ∷ k)) (front
 step_by leaves s p k behind = behind
 step_by refuses s p k behind = stuck (refused_name s (levels (s ∷ k)) p)
 
+-- what a token makes of what must come
 abbrev pub step : Stack → Piece → Step
 step [] p = stuck (plain_name 0 p)
 step (s ∷ k) p = step_by (answer s p) s p k (step k p)
 
 -- ---- what was read
 
+-- a part that was read
 pub data Value : Type 0 where
   file_value : List Statement → Value
   name_value : Span → Value
@@ -414,20 +455,24 @@ pub data Value : Type 0 where
   formula_value : Formula → Value
   members_value : List Formula → Value
 
+-- the parts that were read, the last one first
 abbrev pub Values : Type 0
 Values = List Value
 
+-- a statement's name
 abbrev pub name_taken : Piece → Values → Values
 name_taken (piece.Lower k s) vs = name_value s ∷ vs
 name_taken (piece.Quoted s) vs = name_value s ∷ vs
 name_taken (piece.Numeral m) vs = name_value m.span ∷ vs
 name_taken p vs = vs
 
+-- the role of a premise or a conjecture
 abbrev pub role_taken : Piece → Values → Values
 role_taken (piece.Lower Premise s) vs = role_value false ∷ vs
 role_taken (piece.Lower Conjecture s) vs = role_value true ∷ vs
 role_taken p vs = vs
 
+-- a formula by its role
 abbrev pub stated : Bool → Formula → Content
 stated true f = contents.Conjecture f
 stated false f = contents.Premise f
@@ -438,6 +483,7 @@ ending_taken (type_value t ∷ word_value w ∷ name_value s ∷ file_value ss �
 ending_taken (formula_value f ∷ role_value c ∷ name_value s ∷ file_value ss ∷ vs) = file_value (ss ++ record { name = s; content = stated c f } ∷ []) ∷ vs
 ending_taken vs = vs
 
+-- the word that gets a type
 abbrev pub typing_taken : Piece → Values → Values
 typing_taken (piece.Lower k s) vs = word_value (word.Lower s) ∷ vs
 typing_taken (piece.Quoted s) vs = word_value (word.Quoted s) ∷ vs
@@ -464,10 +510,12 @@ type_taken piece.OfTypes vs = type_value types.OfTypes ∷ vs
 type_taken piece.Truth vs = type_value (types.Function [] sort.Truth) ∷ vs
 type_taken p vs = with_sort (λ s. sorts_value (s ∷ []) ∷ vs) vs p
 
+-- the sort of a result ends a type
 abbrev pub result_taken : Sort → Values → Values
 result_taken s (sorts_value args ∷ vs) = type_value (types.Function args s) ∷ vs
 result_taken s vs = vs
 
+-- a further sort of an argument
 abbrev pub argument_taken : Sort → Values → Values
 argument_taken s (sorts_value args ∷ vs) = sorts_value (args ++ s ∷ []) ∷ vs
 argument_taken s vs = vs
@@ -484,6 +532,7 @@ term_head (piece.Quoted s) = Some (heads.Word (word.Quoted s))
 term_head (piece.Operation o s) = Some (heads.Operation o s)
 term_head p = None
 
+-- a variable, a numeral or a head
 abbrev pub term_taken : Piece → Values → Values
 term_taken (piece.Upper s) vs = term_value (terms.Variable s) ∷ vs
 term_taken (piece.Numeral m) vs = term_value (terms.Numeral m) ∷ vs
@@ -492,60 +541,74 @@ term_taken (piece.Quoted s) vs = head_value (heads.Word (word.Quoted s)) [] ∷ 
 term_taken (piece.Operation o s) vs = head_value (heads.Operation o s) [] ∷ vs
 term_taken p vs = vs
 
+-- what a unit begins with
 abbrev pub unit_taken : Piece → Values → Values
 unit_taken (piece.Quantifier q) vs = binders_value [] ∷ vs
 unit_taken (piece.Constant b) vs = formula_value (formulas.Constant b) ∷ vs
 unit_taken p vs = term_taken p vs
 
+-- a head, with what was read of its arguments, is a term
 abbrev pub arguments_left : Values → Values
 arguments_left (head_value h ts ∷ vs) = term_value (terms.Apply h ts) ∷ vs
 arguments_left vs = vs
 
+-- an argument is read, and by the bracket the whole term
 abbrev pub more_terms_taken : Piece → Values → Values
 more_terms_taken (piece.Sign CloseRound) (term_value t ∷ head_value h ts ∷ vs) = term_value (terms.Apply h (ts ++ t ∷ [])) ∷ vs
 more_terms_taken p (term_value t ∷ head_value h ts ∷ vs) = head_value h (ts ++ t ∷ []) ∷ vs
 more_terms_taken p vs = vs
 
+-- a term alone is a formula
 abbrev pub second_left : Values → Values
 second_left (term_value t ∷ vs) = formula_value (formulas.Atom t) ∷ vs
 second_left vs = vs
 
+-- two terms are one
 abbrev pub after_relation_left : Relation → Values → Values
 after_relation_left r (term_value u ∷ term_value t ∷ vs) = formula_value (formulas.Relation r t u) ∷ vs
 after_relation_left r vs = vs
 
+-- the name of a bound variable
 abbrev pub binder_taken : Piece → Values → Values
 binder_taken (piece.Upper s) vs = binder_value s ∷ vs
 binder_taken p vs = vs
 
+-- a bound variable with its sort, or without one
 abbrev pub bind : Option Sort → Values → Values
 bind o (binder_value s ∷ binders_value bs ∷ vs) = binders_value (bs ++ record { name = s; sort = o } ∷ []) ∷ vs
 bind o vs = vs
 
+-- a variable without a sort, where no `:` comes
 abbrev pub after_binder_taken : Piece → Values → Values
 after_binder_taken (piece.Sign Colon) vs = vs
 after_binder_taken p vs = bind None vs
 
+-- a unit is denied
 abbrev pub ended_left : Values → Values
 ended_left (formula_value f ∷ vs) = formula_value (formulas.Not f) ∷ vs
 ended_left vs = vs
 
+-- a unit is quantified
 abbrev pub bound_left : Quantifier → Values → Values
 bound_left q (formula_value f ∷ binders_value bs ∷ vs) = formula_value (formulas.Quantified q bs f) ∷ vs
 bound_left q vs = vs
 
+-- a formula is the first member of more
 abbrev pub tail_taken : Piece → Values → Values
 tail_taken (piece.Junction j) (formula_value f ∷ vs) = members_value (f ∷ []) ∷ vs
 tail_taken p vs = vs
 
+-- two formulas are linked
 abbrev pub after_link_left : Link → Values → Values
 after_link_left l (formula_value g ∷ formula_value f ∷ vs) = formula_value (formulas.Linked l f g) ∷ vs
 after_link_left l vs = vs
 
+-- a further member
 abbrev pub chain_taken : Values → Values
 chain_taken (formula_value g ∷ members_value fs ∷ vs) = members_value (fs ++ g ∷ []) ∷ vs
 chain_taken vs = vs
 
+-- the last member
 abbrev pub chain_left : Junction → Values → Values
 chain_left j (formula_value g ∷ members_value fs ∷ vs) = formula_value (formulas.Joined j (fs ++ g ∷ [])) ∷ vs
 chain_left j vs = vs
@@ -582,23 +645,28 @@ left second vs = second_left vs
 left (after_relation r) vs = after_relation_left r vs
 left s vs = vs
 
+-- by whether the symbol is left
 abbrev pub act_by : Answer → Values → Values → Values
 act_by leaves here behind = behind
 act_by a here behind = here
 
+-- what a token makes of the values
 abbrev pub act : Stack → Piece → Values → Values
 act [] p vs = vs
 act (s ∷ k) p vs = act_by (answer s p) (taken s p vs) (act k p (left s vs))
 
 -- ---- all tokens
 
+-- what reading all tokens gives
 pub data Outcome : Type 0 where
   whole : Values → Outcome
   fault : Found → Outcome
 
+-- a fault in front of these tokens
 abbrev pub fault_at : FaultName → List Piece → Outcome
 fault_at name ps = fault (record { name = name; left = length ps })
 
+-- at the end: all was read, or the text ends too early
 abbrev pub end_of : Stack → Values → Outcome
 end_of [] vs = fault_at n.Syntax []
 end_of (statements again ∷ k) vs = whole vs
@@ -624,6 +692,7 @@ abbrev pub or_fault : List Piece → Option FaultName → Outcome → Outcome
 or_fault ps (Some name) rest = fault_at name ps
 or_fault ps None rest = rest
 
+-- what a step and the tokens behind it give
 abbrev pub go_on : (Stack → Outcome) → Piece → List Piece → Step → Outcome
 go_on rest p ps (moved check level k) = or_fault (p ∷ ps) (checked check level ps) (rest k)
 go_on rest p ps (stuck name) = fault_at name (p ∷ ps)
@@ -633,6 +702,7 @@ abbrev pub go : Stack → Values → List Piece → Outcome
 go k vs [] = end_of k vs
 go k vs (p ∷ ps) = go_on (λ next. go next (act k p vs) ps) p ps (step k p)
 
+-- what the tokens of a text give
 abbrev pub read : List Piece → Outcome
 read ps = go (statements false ∷ []) (file_value [] ∷ []) ps
 
@@ -646,6 +716,7 @@ Reads front given behind got level tokens rest = (k : Stack) (vs : Values) → l
 abbrev pub StopsAt : Stack → Values → ℕ → List Piece → Found → Type 0
 StopsAt front given level tokens f = (k : Stack) (vs : Values) → levels k ≡ level → go (front ++ k) (given ++ vs) tokens ≡ fault f
 
+-- Memory ran out, or a fault stops it there wherever it stands.
 abbrev pub Stops : Stack → Values → ℕ → List Piece → Stop → Type 0
 Stops front given level tokens stops.Memory = Unit {0}
 Stops front given level tokens (stops.Fault f) = StopsAt front given level tokens f
@@ -655,6 +726,7 @@ abbrev pub first_name : (Piece → FaultName) → List Piece → FaultName
 first_name name_of [] = n.Syntax
 first_name name_of (p ∷ ps) = name_of p
 
+-- a fault at the first token
 abbrev pub refusal : (Piece → FaultName) → List Piece → Stop
 refusal name_of ps = stops.Fault (record { name = first_name name_of ps; left = length ps })
 

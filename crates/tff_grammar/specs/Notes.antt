@@ -5,6 +5,7 @@ use Rattle.tff_grammar.specs.declared.pieces.Sign.TheVariants.{OpenRound, CloseR
 use Rattle.tff_grammar.specs.declared.pieces.Piece.{Piece}
 use Rattle.tff_grammar.specs.declared.pieces.Piece.TheVariants as piece
 
+-- brackets, numerals out of the range, and all others
 abbrev pub note_of : Piece → Note
 note_of (piece.Sign OpenRound) = note.OpenRound
 note_of (piece.Sign CloseRound) = note.CloseRound

@@ -32,6 +32,7 @@ is_premise text =
     if spells "axiom" text then true else if spells "hypothesis" text then true else if spells "definition" text then true else if spells "assumption" text then true
     else if spells "lemma" text then true else if spells "theorem" text then true else if spells "corollary" text then true else spells "negated_conjecture" text
 
+-- what a lower word is beside a name
 abbrev pub keyword_of : List ℕ → Keyword
 keyword_of text =
     if spells "tff" text then keywords.Tff
@@ -42,6 +43,7 @@ keyword_of text =
     else if is_premise text then keywords.Premise
     else keywords.Other
 
+-- the arithmetic word that a text is
 abbrev pub operation_of : List ℕ → Option Operation
 operation_of text =
     if spells "$sum" text then Some operations.Sum
@@ -54,10 +56,12 @@ operation_of text =
     else if spells "$greatereq" text then Some operations.GreaterEq
     else None
 
+-- an arithmetic word, or another dollar word
 abbrev pub operation_piece : Span → Option Operation → Piece
 operation_piece s (Some o) = piece.Operation o s
 operation_piece s None = piece.Unsupported
 
+-- a dollar word as the grammar sees it
 abbrev pub dollar_piece : List ℕ → Span → Piece
 dollar_piece text s =
     if spells "$tType" text then piece.OfTypes
@@ -68,6 +72,7 @@ dollar_piece text s =
     else if spells "$false" text then piece.Constant false
     else operation_piece s (operation_of text)
 
+-- the sign of its own that a text is
 abbrev pub mark_of : List ℕ → Option Sign
 mark_of text =
     if spells "(" text then Some signs.OpenRound
@@ -82,6 +87,7 @@ mark_of text =
     else if spells ">" text then Some signs.Arrow
     else None
 
+-- the sign between two formulas that a text is
 abbrev pub link_of : List ℕ → Option Link
 link_of text =
     if spells "=>" text then Some links.Implies
@@ -92,14 +98,17 @@ link_of text =
     else if spells "~|" text then Some links.Nor
     else None
 
+-- that sign as the grammar sees it, or another token
 abbrev pub link_piece : Option Link → Piece → Piece
 link_piece (Some l) other = piece.Link l
 link_piece None other = other
 
+-- the sign of its own as the grammar sees it, or another token
 abbrev pub mark_piece : Option Sign → Piece → Piece
 mark_piece (Some s) other = piece.Sign s
 mark_piece None other = other
 
+-- `&`, `|`, a quantifier, `=`, `!=`, or `!>`, which is unsupported
 abbrev pub other_piece : List ℕ → Piece
 other_piece text =
     if spells "&" text then piece.Junction junctions.And
@@ -110,5 +119,6 @@ other_piece text =
     else if spells "!=" text then piece.Relation relations.Differ
     else piece.Unsupported
 
+-- a sign as the grammar sees it
 abbrev pub sign_piece : List ℕ → Piece
 sign_piece text = mark_piece (mark_of text) (link_piece (link_of text) (other_piece text))

@@ -18,7 +18,7 @@ mod types;
 mod words;
 
 pub use faults::{Fault, FaultName, ParseError};
-pub use laws::{no_fault_of_text, one_fault, one_text};
+pub use laws::{ascending_places, no_fault_of_text, one_fault, one_text, some_answer};
 pub use pieces::{
     BasicSort, Junction, Keyword, Link, Number, Operation, Piece, Quantifier, Relation, Sign, Span,
 };

@@ -1,6 +1,6 @@
 //! Worked texts: what they give comes from the rules of the input language.
 
-use crate::{FaultName, ParseError, parse};
+use crate::{Content, FaultName, Formula, Head, Link, ParseError, Term, Word, parse};
 use std::alloc::{AllocError, Global};
 
 /// The name and the byte of the first fault, None where there is none.
@@ -14,7 +14,7 @@ fn fault(alloc: Global, text: &[u8]) -> Result<Option<(FaultName, u64)>, AllocEr
 
 #[test]
 fn first_faults(rt: HostRuntime) {
-    let rows: [(&[u8], FaultName, u64); 30] = [
+    let rows: [(&[u8], FaultName, u64); 33] = [
         (b"tff(a,axiom,'p", FaultName::Lex, 12),
         (b"tff(a,axiom,p). tff(b,axiom,^).", FaultName::Lex, 28),
         (b"tff(a,axiom,p)", FaultName::Syntax, 14),
@@ -23,6 +23,8 @@ fn first_faults(rt: HostRuntime) {
         (b"'tff'(a,axiom,p).", FaultName::Syntax, 0),
         (b"tff(a,axiom,p,[(]).", FaultName::Syntax, 16),
         (b"tff(a,type,f:((a))>c).", FaultName::Syntax, 18),
+        (b"tff(a,type,f:((a*b))>c).", FaultName::Syntax, 19),
+        (b"tff(a,type,f:(a>b)>c).", FaultName::Syntax, 18),
         (b"tff(a,axiom,![X:$tType]:p).", FaultName::Syntax, 16),
         (b"include('a').", FaultName::Unsupported, 0),
         (b"tff(a,plain,p).", FaultName::Unsupported, 6),
@@ -30,6 +32,11 @@ fn first_faults(rt: HostRuntime) {
             b"tff(a,axiom,p). tff(b,axiom,![Y:$real]:p(Y)).",
             FaultName::Unsupported,
             32,
+        ),
+        (
+            b"tff(a,axiom,![X:$int]:$less($product(X,X),0)).\ntff(b,axiom,![Y:$real]:p(Y)).",
+            FaultName::Unsupported,
+            63,
         ),
         (b"tff(a,axiom,p=\"x\").", FaultName::Unsupported, 14),
         (b"tff(a,type,p:$o>$o).", FaultName::Unsupported, 13),
@@ -126,31 +133,82 @@ fn cut_texts(rt: HostRuntime) {
     }
 }
 
-/// `tff(a,axiom,`, the piece so many times, and `p).`.
-fn repeated(alloc: Global, piece: &[u8], times: u32) -> Result<Vec<u8>, AllocError> {
+/// `tff(a,axiom,` and `front`, the piece so many times, and `back`.
+fn repeated(
+    alloc: Global,
+    front: &[u8],
+    piece: &[u8],
+    times: u32,
+    back: &[u8],
+) -> Result<Vec<u8>, AllocError> {
     let mut text = Vec::new(alloc);
     text.extend_from_slice(b"tff(a,axiom,")?;
+    text.extend_from_slice(front)?;
     for _ in 0..times {
         text.extend_from_slice(piece)?;
     }
-    text.extend_from_slice(b"p).")?;
+    text.extend_from_slice(back)?;
     Ok(text)
 }
 
 #[test]
 fn levels(rt: HostRuntime) {
-    let rows: [(&[u8], u32, Option<(FaultName, u64)>); 5] = [
-        (b"~", 500, None),
-        (b"~", 501, Some((FaultName::TooDeep, 512))),
-        (b"f(", 501, Some((FaultName::TooDeep, 1013))),
-        (b"p & ", 100_000, None),
-        (b"![X]: p => ", 2, Some((FaultName::Syntax, 31))),
+    let rows: [(&[u8], &[u8], u32, &[u8], Option<(FaultName, u64)>); 9] = [
+        (b"", b"~", 500, b"p).", None),
+        (b"", b"~", 501, b"p).", Some((FaultName::TooDeep, 512))),
+        (b"", b"f(", 501, b"p).", Some((FaultName::TooDeep, 1013))),
+        (b"", b"~", 500, b"p ~).", Some((FaultName::Syntax, 514))),
+        (b"", b"(", 500, b"p ~).", Some((FaultName::TooDeep, 514))),
+        (b"p,", b"(", 501, b").", Some((FaultName::TooDeep, 514))),
+        (b"p,", b"[", 1000, b").", Some((FaultName::Syntax, 1014))),
+        (b"", b"p & ", 100_000, b"p).", None),
+        (
+            b"",
+            b"![X]: p => ",
+            2,
+            b"p).",
+            Some((FaultName::Syntax, 31)),
+        ),
     ];
-    for (piece, times, want) in rows {
-        let text = repeated(rt.alloc(), piece, times).expect(&rt, "memory");
+    for (front, piece, times, back, want) in rows {
+        let text = repeated(rt.alloc(), front, piece, times, back).expect(&rt, "memory");
         let got = fault(rt.alloc(), &text).expect(&rt, "memory");
         assert_eq!(rt; got, want);
     }
+}
+
+/// The bytes of a word that stands as a formula.
+fn atom_word<'a>(text: &'a [u8], formula: &Formula) -> Option<&'a [u8]> {
+    match formula {
+        Formula::Atom(Term::Apply(Head::Word(Word::Lower(span) | Word::Quoted(span)), _)) => {
+            Some(span.bytes(text))
+        }
+        _ => None,
+    }
+}
+
+/// The sign of a conjecture, and the words on its left and on its right.
+fn linked_words<'a>(text: &'a [u8], content: &Content) -> Option<(Link, &'a [u8], &'a [u8])> {
+    match content {
+        Content::Conjecture(Formula::Linked(link, left, right)) => Some((
+            *link,
+            atom_word(text, left.get())?,
+            atom_word(text, right.get())?,
+        )),
+        _ => None,
+    }
+}
+
+#[test]
+fn a_statement(rt: HostRuntime) {
+    let text: &[u8] = b"tff(name,conjecture,p<='Q').";
+    let statements = parse(rt.alloc(), text).expect(&rt, "memory");
+    let statement = statements.get(0).expect(&rt, "one statement");
+    assert_eq!(rt; statement.name.bytes(text), b"name".as_slice());
+    let (link, left, right) = linked_words(text, &statement.content).expect(&rt, "two words");
+    assert_eq!(rt; link, Link::Implied);
+    assert_eq!(rt; left, b"p".as_slice());
+    assert_eq!(rt; right, b"'Q'".as_slice());
 }
 
 #[test]

@@ -4,7 +4,7 @@ use Rattle.std.proofs.lemmas.Bool.{false≢true}
 use Rattle.tff_lexer.specs.declared.spans.TokenKind.{TokenKind}
 use Rattle.tff_lexer.specs.declared.spans.Token.{Token}
 use Rattle.tff_lexer.specs.Blanks.{skip, skipped_length}
-use Rattle.tff_lexer.specs.Scans.{BeginsToken, StopsAt, ScansAt, Scans, SpansAscend}
+use Rattle.tff_lexer.specs.Scans.{BeginsToken, StopsAt, ScansAt, Scans}
 use Rattle.tff_lexer.proofs.FirstBytes.{no_empty}
 
 -- a token has a byte or more
@@ -12,28 +12,21 @@ pub some_byte : (text : List ℕ) (k : TokenKind) (n : ℕ) → BeginsToken text
 some_byte text k zero f = absurd (false≢true (sym (no_empty k) ∙ f.token))
 some_byte text k (suc n) f = omega arith
 
-spans_weaken : (l a b : ℕ) (ts : List Token) → a ≤ b → SpansAscend l b ts → SpansAscend l a ts
-spans_weaken l a b [] h s = omega arith
-spans_weaken l a b (t ∷ ts) h s = (omega (arith, s.0), s.1, s.2)
-
 -- what the loop keeps: a scan of what is left goes on the one that was made
 pub record ScansSo (bytes rest : List ℕ) (made : List Token) : Type 0 where
   pub within : length rest ≤ length bytes
   pub scans : (ts : List Token) (stop : Option ℕ) → ScansAt (length bytes - length rest) rest ts stop → Scans bytes (made ++ ts) stop
-  pub spans : (ts : List Token) → SpansAscend (length bytes) (length bytes - length rest) ts → SpansAscend (length bytes) 0 (made ++ ts)
 
 pub scans_first : (bytes rest : List ℕ) (made : List Token) → rest ≡ skip bytes → length rest ≤ length bytes → made ≡ [] → ScansSo bytes rest made
 scans_first bytes rest made is within none = record {
   within = within;
   scans = λ ts stop h. rw none (subst (λ r. ScansAt (length bytes - length r) r ts stop) is h);
-  spans = λ ts h. rw none (spans_weaken (length bytes) 0 (length bytes - length rest) ts (omega arith) h);
 }
 
 pub scans_next : (bytes rest next : List ℕ) (made made' : List Token) (kind : TokenKind) (n : ℕ) → ScansSo bytes rest made → BeginsToken rest kind n → next ≡ skip (drop n rest) → length next ≤ length (drop n rest) → made' ≡ made ++ record { kind = kind; start = length bytes - length rest; «end» = length bytes - length rest + n } ∷ [] → ScansSo bytes next made'
 scans_next bytes rest next made made' kind n so token is within pushed = record {
   within = omega (arith, so.within, left);
   scans = λ ts stop h. rw (pushed, append_assoc) (so.scans (t ∷ ts) stop (refl, subst (BeginsToken rest kind) (sym length_is) token, goes ts stop h));
-  spans = λ ts h. rw (pushed, append_assoc) (so.spans (t ∷ ts) (omega arith, omega (arith, some_byte rest kind n token), spans_weaken (length bytes) (at + n) (length bytes - length next) ts (omega (arith, so.within, left, token.within)) h));
 }
   where
     at : ℕ
@@ -56,6 +49,3 @@ scans_next bytes rest next made made' kind n so token is within pushed = record 
 
 pub scans_end : (bytes rest : List ℕ) (made : List Token) (stop : Option ℕ) → ScansSo bytes rest made → StopsAt (length bytes - length rest) rest stop → Scans bytes made stop
 scans_end bytes rest made stop so stops = subst (λ ts. Scans bytes ts stop) (append-nil made) (so.scans [] stop stops)
-
-pub spans_end : (bytes rest : List ℕ) (made : List Token) → ScansSo bytes rest made → SpansAscend (length bytes) 0 made
-spans_end bytes rest made so = subst (SpansAscend (length bytes) 0) (append-nil made) (so.spans [] (omega arith))

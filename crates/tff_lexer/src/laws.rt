@@ -5,7 +5,7 @@ ghost use Rattle.tff_lexer.specs.declared.spans.Token.{Token};
 ghost use Rattle.tff_lexer.specs.declared.spans.TokenKind.{TokenKind};
 ghost use Rattle.tff_lexer.specs.Forms.{is_token};
 ghost use Rattle.tff_lexer.specs.Blanks.{AreBlanks, BeginsNoBlank, HasNoStarSlash, skip};
-ghost use Rattle.tff_lexer.specs.Scans.{BeginsNoToken, Scans, HaveForms};
+ghost use Rattle.tff_lexer.specs.Scans.{BeginsNoToken, Scans, SpansAscend, HaveForms};
 
 /// A text is a token of at most one kind.
 pub fn one_kind()
@@ -13,7 +13,7 @@ pub fn one_kind()
         → IsTrue (is_token other text) → kind ≡ other }
 {}
 
-/// A text has one scan.
+/// A text has at most one scan.
 pub fn one_scan()
     ensures { (bytes : List ℕ) (first second : List Token) (stop other : Option ℕ)
         → Scans bytes first stop → Scans bytes second other → (first ≡ second) × (stop ≡ other) }
@@ -23,6 +23,12 @@ pub fn one_scan()
 pub fn token_texts()
     ensures { (bytes : List ℕ) (tokens : List Token) (stop : Option ℕ)
         → Scans bytes tokens stop → HaveForms bytes tokens }
+{}
+
+/// The spans of the tokens of a text ascend: none is empty, none begins before the last one's end, none passes the end of the text.
+pub fn ascending_spans()
+    ensures { (bytes : List ℕ) (tokens : List Token) (stop : Option ℕ)
+        → Scans bytes tokens stop → SpansAscend (length bytes) 0 tokens }
 {}
 
 /// At the place at which a scan stops no token begins.

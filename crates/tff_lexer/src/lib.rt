@@ -13,7 +13,7 @@ mod tests;
 mod values;
 mod words;
 
-pub use laws::{one_kind, one_scan, skipped_blanks, stop_text, token_texts};
+pub use laws::{ascending_spans, one_kind, one_scan, skipped_blanks, stop_text, token_texts};
 pub use scanner::tokens;
 pub use spans::{Scan, Token, TokenKind};
 pub use values::numeral_value;

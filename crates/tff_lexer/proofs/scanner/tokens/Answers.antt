@@ -1,7 +1,8 @@
 use Rattle.std.proofs.Common.{ap, ◌∙◌}
 use Rattle.std.proofs.lemmas.List.{take_rest}
 use Rattle.tff_lexer.specs.Blanks.{skip}
-use Rattle.tff_lexer.proofs.Scanning.{scans_first, scans_next, scans_end, spans_end}
+use Rattle.tff_lexer.proofs.Scanning.{scans_first, scans_next, scans_end}
+use Rattle.tff_lexer.proofs.TokenTexts.{ascending_spans}
 use Rattle.tff_lexer.proofs.scanner.tokens.Goals as goal
 
 pub loop-kind-init : goal.loop-kind-init
@@ -19,4 +20,5 @@ pub returns-clause-scan : goal.returns-clause-scan
 returns-clause-scan c = scans_end c.args.bytes.now c.loop-kind.rest.now c.loop-kind.tokens.items c.stop_at-stop.result c.loop-kind.invariant c.stop_at-stop.ensures.stops
 
 pub returns-clause-spans : goal.returns-clause-spans
-returns-clause-spans c = spans_end c.args.bytes.now c.loop-kind.rest.now c.loop-kind.tokens.items c.loop-kind.invariant
+returns-clause-spans c =
+    ascending_spans c.args.bytes.now c.loop-kind.tokens.items c.stop_at-stop.result (scans_end c.args.bytes.now c.loop-kind.rest.now c.loop-kind.tokens.items c.stop_at-stop.result c.loop-kind.invariant c.stop_at-stop.ensures.stops)
