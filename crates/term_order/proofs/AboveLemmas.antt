@@ -54,8 +54,9 @@ module _ (S : List Symbol) where
 
   pub by_reaching : (f : Head) (xs : Trees) (t : Tree) → Reaches xs t → Above S (node f xs) t
   by_reaching f xs t r = elim r.1.1 [
-      inl e ↦ subst (Above S (node f xs)) e (by_equal_argument f xs r.0 r.1.0)
-    | inr a ↦ by_argument_above f xs r.0 t r.1.0 a ]
+    | inl e ↦ subst (Above S (node f xs)) e (by_equal_argument f xs r.0 r.1.0)
+    | inr a ↦ by_argument_above f xs r.0 t r.1.0 a
+  ]
 
   pub by_winning : (f : Head) (xs : Trees) (g : Head) (ys : Trees) → HeadWins f xs g ys → ((y : Tree) → Member y ys → Above S (node f xs) y) → Above S (node f xs) (node g ys)
   by_winning f xs g ys (inl b) all = by_head f g xs ys b all
@@ -71,10 +72,12 @@ module _ (S : List Symbol) where
   above_arguments = tree_induction AboveArguments
       (λ v g ys h y m. absurd (cases (var v) (node g ys) h))
       (λ f xs each g ys h y m. elim (cases (node f xs) (node g ys) h) [
-          inl r ↦ by_argument_above f xs r.0 y r.1.0 (elim r.1.1 [
-              inl e ↦ subst (λ z. Above S z y) (sym e) (by_equal_argument g ys y m)
-            | inr a ↦ each r.0 r.1.0 g ys a y m ])
-        | inr p ↦ p.1 y m ])
+        | inl r ↦ by_argument_above f xs r.0 y r.1.0 (elim r.1.1 [
+          | inl e ↦ subst (λ z. Above S z y) (sym e) (by_equal_argument g ys y m)
+          | inr a ↦ each r.0 r.1.0 g ys a y m
+        ])
+        | inr p ↦ p.1 y m
+      ])
 
   abbrev NotAboveItself : Tree → Type 0
   NotAboveItself s = Above S s s → ⊥
@@ -88,10 +91,12 @@ module _ (S : List Symbol) where
   irreflexive = tree_induction NotAboveItself
       (λ v h. cases (var v) (var v) h)
       (λ f xs each h. elim (cases (node f xs) (node f xs) h) [
-          inl r ↦ each r.0 r.1.0 (elim r.1.1 [
-              inl e ↦ subst (λ z. Above S z r.0) (sym e) (by_equal_argument f xs r.0 r.1.0)
-            | inr a ↦ above_arguments r.0 f xs a r.0 r.1.0 ])
-        | inr p ↦ elim p.0 [ inl b ↦ below_itself S f b | inr q ↦ wins_apart xs q.1 ] ])
+        | inl r ↦ each r.0 r.1.0 (elim r.1.1 [
+          | inl e ↦ subst (λ z. Above S z r.0) (sym e) (by_equal_argument f xs r.0 r.1.0)
+          | inr a ↦ above_arguments r.0 f xs a r.0 r.1.0
+        ])
+        | inr p ↦ elim p.0 [ inl b ↦ below_itself S f b | inr q ↦ wins_apart xs q.1 ]
+      ])
 
   -- what is above a foreground term is foreground
   abbrev Rises : Tree → Type 0
@@ -108,14 +113,17 @@ module _ (S : List Symbol) where
   rises = tree_induction Rises
       (λ v t h _. absurd (cases (var v) t h))
       (λ f xs each. tree_induction (λ t. Above S (node f xs) t → foreground S t ≡ true → foreground S (node f xs) ≡ true)
-          (λ v h p. absurd (both_ways false p refl))
-          (λ g ys later h p. elim (cases (node f xs) (node g ys) h) [
-              inl r ↦ foreground_argument f xs r.0 r.1.0 (elim r.1.1 [
-                  inl e ↦ ap (foreground S) e ∙ p
-                | inr a ↦ each r.0 r.1.0 (node g ys) a p ])
-            | inr q ↦ elim (or-true (foreground_head S g) (any_foreground S ys) p) [
-                  inl in_head ↦ or-left (foreground_head S f) (any_foreground S xs) (foreground_rises S f g (either_head f g xs ys q.0) in_head)
-                | inr below ↦ (let m = foreground_member S ys below in later m.0 m.1.0 (q.1 m.0 m.1.0) m.1.1) ] ]))
+      (λ v h p. absurd (both_ways false p refl))
+      (λ g ys later h p. elim (cases (node f xs) (node g ys) h) [
+        | inl r ↦ foreground_argument f xs r.0 r.1.0 (elim r.1.1 [
+          | inl e ↦ ap (foreground S) e ∙ p
+          | inr a ↦ each r.0 r.1.0 (node g ys) a p
+        ])
+        | inr q ↦ elim (or-true (foreground_head S g) (any_foreground S ys) p) [
+          | inl in_head ↦ or-left (foreground_head S f) (any_foreground S xs) (foreground_rises S f g (either_head f g xs ys q.0) in_head)
+          | inr below ↦ (let m = foreground_member S ys below in later m.0 m.1.0 (q.1 m.0 m.1.0) m.1.1)
+        ]
+      ]))
 
   -- a foreground term is above every pure one
   abbrev OverPure : Tree → Type 0
@@ -125,16 +133,17 @@ module _ (S : List Symbol) where
   head_over_pure f xs h = tree_induction (λ p. IsPure S p → Above S (node f xs) p)
       (λ v pure. over_abstraction f xs v (not-false (is_abstraction v) pure.no_ordinary) (or-left (foreground_head S f) (any_foreground S xs) h))
       (λ g ys later pure. by_head f g xs ys
-          (others_below S f g h (or-false (foreground_head S g) (any_foreground S ys) pure.no_foreground).0)
-          (λ y m. later y m (pure_member S g ys pure y m)))
+      (others_below S f g h (or-false (foreground_head S g) (any_foreground S ys) pure.no_foreground).0)
+      (λ y m. later y m (pure_member S g ys pure y m)))
 
   pub over_pure : (s : Tree) → OverPure s
   over_pure = tree_induction OverPure
       (λ v h p pure. absurd (both_ways false h refl))
       (λ f xs each h p pure. elim (or-true (foreground_head S f) (any_foreground S xs) h) [
-          inl in_head ↦ head_over_pure f xs in_head p pure
+        | inl in_head ↦ head_over_pure f xs in_head p pure
         | inr below ↦ (let m = foreground_member S xs below in
-            by_argument_above f xs m.0 p m.1.0 (each m.0 m.1.0 m.1.1 p pure)) ])
+            by_argument_above f xs m.0 p m.1.0 (each m.0 m.1.0 m.1.1 p pure))
+      ])
 
   -- transitivity
   abbrev GoesOn : Tree → Type 0
@@ -160,29 +169,36 @@ module _ (S : List Symbol) where
   -- where an argument of s reaches t
   reach_on : (f : Head) (xs : Trees) (t u : Tree) → ((x : Tree) → Member x xs → GoesOn x) → Reaches xs t → Above S t u → Above S (node f xs) u
   reach_on f xs t u each r k = by_argument_above f xs r.0 u r.1.0 (elim r.1.1 [
-      inl e ↦ subst (λ a. Above S a u) (sym e) k
-    | inr a ↦ each r.0 r.1.0 t u a k ])
+    | inl e ↦ subst (λ a. Above S a u) (sym e) k
+    | inr a ↦ each r.0 r.1.0 t u a k
+  ])
 
   pub transitive : (s : Tree) → GoesOn s
   transitive = tree_induction GoesOn
       (λ v t u h _. absurd (cases (var v) t h))
       (λ f xs each. tree_induction (λ t. (u : Tree) → Above S (node f xs) t → Above S t u → Above S (node f xs) u)
-          (λ v u h k. absurd (cases (var v) u k))
-          (λ g ys inner. tree_induction (λ u. Above S (node f xs) (node g ys) → Above S (node g ys) u → Above S (node f xs) u)
-              (λ v h k. elim (cases (node f xs) (node g ys) h) [
-                  inl r ↦ reach_on f xs (node g ys) (var v) each r k
-                | inr q ↦ elim (cases (node g ys) (var v) k) [
-                      inl r ↦ elim r.1.1 [
-                          inl e ↦ subst (Above S (node f xs)) e (q.1 r.0 r.1.0)
-                        | inr a ↦ inner r.0 r.1.0 (var v) (q.1 r.0 r.1.0) a ]
-                    | inr p ↦ over_abstraction f xs v p.0 (rises (node f xs) (node g ys) h p.1) ] ])
-              (λ j zs last h k. elim (cases (node f xs) (node g ys) h) [
-                  inl r ↦ reach_on f xs (node g ys) (node j zs) each r k
-                | inr q ↦ elim (cases (node g ys) (node j zs) k) [
-                      inl r ↦ elim r.1.1 [
-                          inl e ↦ subst (Above S (node f xs)) e (q.1 r.0 r.1.0)
-                        | inr a ↦ inner r.0 r.1.0 (node j zs) (q.1 r.0 r.1.0) a ]
-                    | inr p ↦ by_winning f xs j zs (heads_go_on f g j xs ys zs each q.0 p.0) (λ z m. last z m h (p.1 z m)) ] ])))
+      (λ v u h k. absurd (cases (var v) u k))
+      (λ g ys inner. tree_induction (λ u. Above S (node f xs) (node g ys) → Above S (node g ys) u → Above S (node f xs) u)
+      (λ v h k. elim (cases (node f xs) (node g ys) h) [
+        | inl r ↦ reach_on f xs (node g ys) (var v) each r k
+        | inr q ↦ elim (cases (node g ys) (var v) k) [
+          | inl r ↦ elim r.1.1 [
+            | inl e ↦ subst (Above S (node f xs)) e (q.1 r.0 r.1.0)
+            | inr a ↦ inner r.0 r.1.0 (var v) (q.1 r.0 r.1.0) a
+          ]
+          | inr p ↦ over_abstraction f xs v p.0 (rises (node f xs) (node g ys) h p.1)
+        ]
+      ])
+      (λ j zs last h k. elim (cases (node f xs) (node g ys) h) [
+        | inl r ↦ reach_on f xs (node g ys) (node j zs) each r k
+        | inr q ↦ elim (cases (node g ys) (node j zs) k) [
+          | inl r ↦ elim r.1.1 [
+            | inl e ↦ subst (Above S (node f xs)) e (q.1 r.0 r.1.0)
+            | inr a ↦ inner r.0 r.1.0 (node j zs) (q.1 r.0 r.1.0) a
+          ]
+          | inr p ↦ by_winning f xs j zs (heads_go_on f g j xs ys zs each q.0 p.0) (λ z m. last z m h (p.1 z m))
+        ]
+      ])))
 
   -- every simple substitution keeps the order
   module _ (s : Variable → Tree) (simple : Simple S s) where
@@ -203,18 +219,25 @@ module _ (S : List Symbol) where
 
     reach_stays : (f : Head) (xs : Trees) (u : Tree) → ((x : Tree) → Member x xs → Stays x) → Reaches xs u → Above S (node f (put_all s xs)) (put_in s u)
     reach_stays f xs u each r =
-        by_reaching f (put_all s xs) (put_in s u) (put_in s r.0, (member_put s xs r.0 r.1.0,
-            elim r.1.1 [ inl e ↦ inl (ap (put_in s) e) | inr a ↦ inr (each r.0 r.1.0 u a) ]))
+        by_reaching f (put_all s xs) (put_in s u) (
+          put_in s r.0,
+          (
+            member_put s xs r.0 r.1.0,
+            elim r.1.1 [ inl e ↦ inl (ap (put_in s) e) | inr a ↦ inr (each r.0 r.1.0 u a) ],
+          ),
+        )
 
     pub stays : (t : Tree) → Stays t
     stays = tree_induction Stays
         (λ v u h. absurd (cases (var v) u h))
         (λ f xs each. tree_induction (λ u. Above S (node f xs) u → Above S (put_in s (node f xs)) (put_in s u))
-            (λ v h. elim (cases (node f xs) (var v) h) [
-                inl r ↦ reach_stays f xs (var v) each r
-              | inr p ↦ over_pure (put_in s (node f xs)) (put-foreground S s (node f xs) p.1) (s v) (simple.pure v p.0) ])
-            (λ g ys later h. elim (cases (node f xs) (node g ys) h) [
-                inl r ↦ reach_stays f xs (node g ys) each r
-              | inr p ↦ by_winning f (put_all s xs) g (put_all s ys) (heads_stay f g xs ys each p.0) (λ y m.
-                  let o = put_member s ys y m in
-                  subst (Above S (node f (put_all s xs))) o.1.1 (later o.0 o.1.0 (p.1 o.0 o.1.0))) ]))
+        (λ v h. elim (cases (node f xs) (var v) h) [
+          | inl r ↦ reach_stays f xs (var v) each r
+          | inr p ↦ over_pure (put_in s (node f xs)) (put-foreground S s (node f xs) p.1) (s v) (simple.pure v p.0)
+        ])
+        (λ g ys later h. elim (cases (node f xs) (node g ys) h) [
+          | inl r ↦ reach_stays f xs (node g ys) each r
+          | inr p ↦ by_winning f (put_all s xs) g (put_all s ys) (heads_stay f g xs ys each p.0) (λ y m.
+              let o = put_member s ys y m in
+              subst (Above S (node f (put_all s xs))) o.1.1 (later o.0 o.1.0 (p.1 o.0 o.1.0)))
+        ]))

@@ -51,7 +51,7 @@ module _ (S : List Symbol) (s t : Tree) where
   compared_is o e =
       let back = standing S t s in
       subst (Compares S s t) (sym e) (compares_by (standing S s t) (standing_told S s t) (is_above back)
-        (above_out S t s back (standing_told S t s)) (above_in S t s back (standing_told S t s)))
+      (above_out S t s back (standing_told S t s)) (above_in S t s back (standing_told S t s)))
 
 module _ (S : List Symbol) (s t : Term) where
   pub terms_equal : (o : Order) → Compares S (tree s) (tree t) o → (o ≡ Equal) ↔ (s ≡ t)
@@ -62,6 +62,7 @@ module _ (S : List Symbol) (s t : Term) where
   pub terms_open : (o : Order) → Compares S (tree s) (tree t) o
       → (o ≡ Open) ↔ ((order.Above S (tree s) (tree t) → ⊥) × (order.Above S (tree t) (tree s) → ⊥) × (s ≢ t))
   terms_open o h =
-      let both = exactly S (tree s) (tree t) o h Open in
-      ((λ e. let three = both.0 e in (three.0, three.1, (λ i. three.2 (ap tree i)))),
-       (λ three. both.1 (three.0, three.1, (λ i. three.2 (tree_injective s t i)))))
+      let both = exactly S (tree s) (tree t) o h Open in (
+        (λ e. let three = both.0 e in (three.0, three.1, (λ i. three.2 (ap tree i)))),
+        (λ three. both.1 (three.0, three.1, (λ i. three.2 (tree_injective s t i)))),
+      )

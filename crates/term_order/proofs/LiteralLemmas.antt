@@ -77,9 +77,9 @@ module _ (S : List Symbol) where
       | inl p ↦ (let g = h (less_out (count t (multiset m)) (count t (multiset l)) p) in
           or-right (not (has_more l m t)) (side_above S m l m.left t || side_above S m l m.right t)
           (elim (side g.0 g.1.0) [
-        | inl e ↦ or-left (side_above S m l m.left t) (side_above S m l m.right t) (subst (λ u. side_above S m l u t ≡ true) (sym e) (side_in g.0 t g.1.0 g.1.1))
-        | inr e ↦ or-right (side_above S m l m.left t) (side_above S m l m.right t) (subst (λ u. side_above S m l u t ≡ true) (sym e) (side_in g.0 t g.1.0 g.1.1))
-      ]))
+            | inl e ↦ or-left (side_above S m l m.left t) (side_above S m l m.right t) (subst (λ u. side_above S m l u t ≡ true) (sym e) (side_in g.0 t g.1.0 g.1.1))
+            | inr e ↦ or-right (side_above S m l m.left t) (side_above S m l m.right t) (subst (λ u. side_above S m l u t ≡ true) (sym e) (side_in g.0 t g.1.0 g.1.1))
+          ]))
     ]
 
     abbrev some_more : Bool
@@ -137,11 +137,11 @@ module _ (S : List Symbol) where
       let e : k ≡ m = cc in
       or-left (not (n == i) && literal_above S k l) (some_above S l i (n + 1) ms)
       (and-in (not (n == i)) (literal_above S k l)
-        (elim (true_or_false (n == i)) [
-          | inl p ↦ absurd (d (let q : n ≡ i = grind (arith, common_steps, p) in omega (arith, q)))
-          | inr q ↦ ap not q
-        ])
-        (subst (λ z. literal_above S z l ≡ true) (sym e) (literal_tells m l a)))
+      (elim (true_or_false (n == i)) [
+        | inl p ↦ absurd (d (let q : n ≡ i = grind (arith, common_steps, p) in omega (arith, q)))
+        | inr q ↦ ap not q
+      ])
+      (subst (λ z. literal_above S z l ≡ true) (sym e) (literal_tells m l a)))
   other_in l i n (k ∷ ms) (suc j) m is d a =
       or-right (not (n == i) && literal_above S k l) (some_above S l i (n + 1) ms)
       (other_in l i (n + 1) ms j m is (λ e. d (omega (arith, e))) a)

@@ -60,9 +60,9 @@ module _ (r : Tree → Tree) where
         let later = count-image t xs p in
         let back : count (r t) (map r (remove t (x ∷ xs))) ≡ count (r t) (r x ∷ map r (remove t xs)) = ap (λ l. count (r t) (map r l)) (remove-other x t xs d) in
         elim (same_or_not (r x) (r t)) [
-      | inl e ↦ count-same (r x) (r t) (map r xs) e ∙ ap suc later ∙ ap suc (sym (count-same (r x) (r t) (map r (remove t xs)) e) ∙ sym back)
-      | inr n ↦ count-other (r x) (r t) (map r xs) n ∙ later ∙ ap suc (sym (count-other (r x) (r t) (map r (remove t xs)) n) ∙ sym back)
-    ]
+          | inl e ↦ count-same (r x) (r t) (map r xs) e ∙ ap suc later ∙ ap suc (sym (count-same (r x) (r t) (map r (remove t xs)) e) ∙ sym back)
+          | inr n ↦ count-other (r x) (r t) (map r xs) n ∙ later ∙ ap suc (sym (count-other (r x) (r t) (map r (remove t xs)) n) ∙ sym back)
+        ]
   ]
 
   -- where m has each tree with image w at least as often as l, its image has w at least as often
@@ -77,10 +77,10 @@ module _ (r : Tree → Tree) where
         let b = h x e in
         let c : 0 < count x m = omega arith in
         let later = pigeons w xs (remove x m) (λ t f. elim (same_or_not x t) [
-      | inl same ↦ (let p = count-same x t xs same in let q = h t f in
-          let u : count t m ≡ suc (count t (remove x m)) = subst (λ z. count z m ≡ suc (count z (remove x m))) same (count-remove x m c) in omega arith)
-      | inr n ↦ (let p = count-other x t xs n in let q = h t f in let u = count-remove-other t x m n in omega arith)
-    ]) in
+          | inl same ↦ (let p = count-same x t xs same in let q = h t f in
+              let u : count t m ≡ suc (count t (remove x m)) = subst (λ z. count z m ≡ suc (count z (remove x m))) same (count-remove x m c) in omega arith)
+          | inr n ↦ (let p = count-other x t xs n in let q = h t f in let u = count-remove-other t x m n in omega arith)
+        ]) in
         let d = count-same (r x) w (map r xs) e in
         let f : count w (map r m) ≡ suc (count w (map r (remove x m))) = subst (λ z. count z (map r m) ≡ suc (count z (map r (remove x m)))) e (count-image x m c) in
         omega arith)
@@ -93,10 +93,10 @@ module _ (r : Tree → Tree) where
       let a = count-remove y m c in
       let b = count-image y m c in
       let later = pigeons (r y) l (remove y m) (λ t e. elim (same_or_not y t) [
-    | inl same ↦ (let u : count t m ≡ suc (count t (remove y m)) = subst (λ z. count z m ≡ suc (count z (remove y m))) same a in
-        let v : count t l < count t m = subst (More m l) same more in omega arith)
-    | inr n ↦ (let u = count-remove-other t y m n in let v = h t e in omega arith)
-  ]) in
+        | inl same ↦ (let u : count t m ≡ suc (count t (remove y m)) = subst (λ z. count z m ≡ suc (count z (remove y m))) same a in
+            let v : count t l < count t m = subst (More m l) same more in omega arith)
+        | inr n ↦ (let u = count-remove-other t y m n in let v = h t e in omega arith)
+      ]) in
       omega arith
 
   -- a tree with image w that l has more often than m
@@ -187,11 +187,16 @@ module _ (S : List Symbol) (s : Variable → Tree) (simple : Simple S s) where
         | inr all ↦ absurd (let p = pigeons r t l m all in omega arith)
         | inl f ↦ (let h = above.below f.0 f.1.1 in
             let c = climb h.0 h.1.0 in
-            let up : Above S (r h.0) t = subst (Above S (r h.0)) f.1.0 (stays S s simple h.0 f.0 h.1.1) in
-            (c.0, (c.1.0, elim c.1.1 [
-          | inl e ↦ subst (λ z. Above S z t) (sym e) up
-          | inr over ↦ transitive S c.0 (r h.0) t over up
-        ])))
+            let up : Above S (r h.0) t = subst (Above S (r h.0)) f.1.0 (stays S s simple h.0 f.0 h.1.1) in (
+              c.0,
+              (
+                c.1.0,
+                elim c.1.1 [
+                  | inl e ↦ subst (λ z. Above S z t) (sym e) up
+                  | inr over ↦ transitive S c.0 (r h.0) t over up
+                ],
+              ),
+            ))
       ];
     }
 

@@ -141,6 +141,7 @@ module _ (S : List Symbol) where
   above_number (node f ys) xs k h =
       let b : head_below S (number k) f ≡ true = number_below_product S k f h in
       let n : head_below S f (number k) ≡ false = elim (true_or_false (head_below S f (number k))) [
-            inl p ↦ absurd (below_itself S f (below_below S f (number k) f p b))
-          | inr q ↦ q ] in
+        | inl p ↦ absurd (below_itself S f (below_below S f (number k) f p b))
+        | inr q ↦ q
+      ] in
       rw (n, b) refl

@@ -80,8 +80,9 @@ module _ (S : List Symbol) where
   some_out : (xs : Trees) → ((x : Tree) → Member x xs → Told x) → (t : Tree) → some_reaches (standings S xs) t ≡ true → Reaches S xs t
   some_out none each t h = absurd (both_ways false h refl)
   some_out (more x xs) each t h = elim (or-true (reaches (standing S x t)) (some_reaches (standings S xs) t) h) [
-      inl p ↦ (x, (inl refl, reaches_out x t (standing S x t) (each x (inl refl) t) p))
-    | inr q ↦ (let r = some_out xs (λ y m. each y (inr m)) t q in (r.0, (inr r.1.0, r.1.1))) ]
+    | inl p ↦ (x, (inl refl, reaches_out x t (standing S x t) (each x (inl refl) t) p))
+    | inr q ↦ (let r = some_out xs (λ y m. each y (inr m)) t q in (r.0, (inr r.1.0, r.1.1)))
+  ]
 
   some_in : (xs : Trees) → ((x : Tree) → Member x xs → Told x) → (t x : Tree) → Member x xs → (x ≡ t) ⊎ Above S x t → some_reaches (standings S xs) t ≡ true
   some_in none each t x m h = absurd m
@@ -102,8 +103,9 @@ module _ (S : List Symbol) where
     all_out (more z zs) inner h y m =
         let two = and-true (is_above (node_standing S f xs (standings S xs) z)) (above_all S f xs (standings S xs) zs) h in
         elim m [
-            inl e ↦ subst (Above S s) e (above_out s z (node_standing S f xs (standings S xs) z) (inner z (inl refl)) two.0)
-          | inr k ↦ all_out zs (λ a i. inner a (inr i)) two.1 y k ]
+          | inl e ↦ subst (Above S s) e (above_out s z (node_standing S f xs (standings S xs) z) (inner z (inl refl)) two.0)
+          | inr k ↦ all_out zs (λ a i. inner a (inr i)) two.1 y k
+        ]
 
     all_in : (ys : Trees) → ((y : Tree) → Member y ys → At y) → ((y : Tree) → Member y ys → Above S s y) → above_all S f xs (standings S xs) ys ≡ true
     all_in none inner h = refl
@@ -129,10 +131,12 @@ module _ (S : List Symbol) where
       smaller b = stands_if s t (some_reaches (standings S xs) t) (apart (λ e _. head_apart b e))
           (λ h. by_reaching S f xs t (some_out xs each t h))
           (λ a. elim (cases S s t a) [
-              inl r ↦ some_in xs each t r.0 r.1.0 r.1.1
+            | inl r ↦ some_in xs each t r.0 r.1.0 r.1.1
             | inr p ↦ elim p.0 [
-                  inl k ↦ absurd (below_itself S f (below_below S f g f b k))
-                | inr q ↦ absurd (head_apart b q.0) ] ])
+              | inl k ↦ absurd (below_itself S f (below_below S f g f b k))
+              | inr q ↦ absurd (head_apart b q.0)
+            ]
+          ])
 
       -- a larger head is above exactly where it is above each argument
       larger : head_below S g f ≡ true → Stands s t (above_if (above_all S f xs (standings S xs) ys))
@@ -156,11 +160,13 @@ module _ (S : List Symbol) where
         left_in = λ x m. r.left_in x (inr m);
         right_in = λ y m. r.right_in y (inr m);
         left_else = λ x m. elim (r.left_else x m) [
-            inl c ↦ inl c
-          | inr k ↦ elim k [ inl i ↦ inl (subst (λ z. Member z ys) (sym e ∙ i) (r.right_in b (inl refl))) | inr k' ↦ inr k' ] ];
+          | inl c ↦ inl c
+          | inr k ↦ elim k [ inl i ↦ inl (subst (λ z. Member z ys) (sym e ∙ i) (r.right_in b (inl refl))) | inr k' ↦ inr k' ]
+        ];
         right_else = λ y m. elim (r.right_else y m) [
-            inl c ↦ inl c
-          | inr k ↦ elim k [ inl i ↦ inl (subst (λ z. Member z xs) (e ∙ i) (r.left_in a (inl refl))) | inr k' ↦ inr k' ] ];
+          | inl c ↦ inl c
+          | inr k ↦ elim k [ inl i ↦ inl (subst (λ z. Member z xs) (e ∙ i) (r.left_in a (inl refl))) | inr k' ↦ inr k' ]
+        ];
         wins = λ w. r.wins (inl (e, w));
         wins_back = λ w. elim (r.wins_back w) [ inl p ↦ p.1 | inr p ↦ absurd (p.0 e) ];
         same = λ i. r.same (let j : ls ≡ rs = i in cc);
@@ -171,8 +177,9 @@ module _ (S : List Symbol) where
         -- no argument of t reaches t
         no_return : (x : Tree) → Member x ys → (x ≡ t) ⊎ Above S x t → ⊥
         no_return x m h = elim h [
-            inl i ↦ irreflexive S t (subst (Above S t) i (by_equal_argument g ys x m))
-          | inr a ↦ irreflexive S t (transitive S t x t (by_equal_argument g ys x m) a) ]
+          | inl i ↦ irreflexive S t (subst (Above S t) i (by_equal_argument g ys x m))
+          | inr a ↦ irreflexive S t (transitive S t x t (by_equal_argument g ys x m) a)
+        ]
 
         lists : (rs ls : Trees) → Behind ls rs → Stands s t (list_standing S f xs (standings S xs) t rs (standings S ls))
         lists none none r = let i = r.same refl in cc
@@ -180,14 +187,19 @@ module _ (S : List Symbol) where
             (apart (λ _ i. both_ways false (ap is_none (r.same_back i)) refl))
             (λ h. let k = some_out (more a ls) (λ x m. each x (r.left_in x m)) t h in by_reaching S f xs t (k.0, (r.left_in k.0 k.1.0, k.1.1)))
             (λ h. elim (cases S s t h) [
-                inl k ↦ elim (r.left_else k.0 k.1.0) [
-                    inl c ↦ absurd (no_return k.0 c k.1.1)
-                  | inr m ↦ some_in (more a ls) (λ x i. each x (r.left_in x i)) t k.0 m k.1.1 ]
-              | inr p ↦ elim p.0 [ inl b ↦ absurd (head_apart_back b e) | inr q ↦ absurd (r.wins_back q.1) ] ])
-        lists (more b rs) none r = ((λ h. elim (cases S s t h) [
-                inl k ↦ elim (r.left_else k.0 k.1.0) [ inl c ↦ no_return k.0 c k.1.1 | inr m ↦ m ]
-              | inr p ↦ elim p.0 [ inl i ↦ head_apart_back i e | inr q ↦ r.wins_back q.1 ] ]),
-            apart (λ _ i. both_ways true refl (sym (ap is_none (sym (r.same_back i))))))
+              | inl k ↦ elim (r.left_else k.0 k.1.0) [
+                | inl c ↦ absurd (no_return k.0 c k.1.1)
+                | inr m ↦ some_in (more a ls) (λ x i. each x (r.left_in x i)) t k.0 m k.1.1
+              ]
+              | inr p ↦ elim p.0 [ inl b ↦ absurd (head_apart_back b e) | inr q ↦ absurd (r.wins_back q.1) ]
+            ])
+        lists (more b rs) none r = (
+          (λ h. elim (cases S s t h) [
+            | inl k ↦ elim (r.left_else k.0 k.1.0) [ inl c ↦ no_return k.0 c k.1.1 | inr m ↦ m ]
+            | inr p ↦ elim p.0 [ inl i ↦ head_apart_back i e | inr q ↦ r.wins_back q.1 ]
+          ]),
+          apart (λ _ i. both_ways true refl (sym (ap is_none (sym (r.same_back i))))),
+        )
         lists (more b rs) (more a ls) r = decided (standing S a b) (each a (r.left_in a (inl refl)) b) (lists rs ls) where
           others : (x : Tree) → Member x ls → Told x
           others x m = each x (r.left_in x (inr m))
@@ -201,27 +213,34 @@ module _ (S : List Symbol) where
           decided is.Above h go = stands_if s t (above_all S f xs (standings S xs) rs)
               (apart (λ _ i. irreflexive S a (subst (Above S a) (sym (ap (first_or a) (r.same_back i))) h)))
               (λ all. by_winning S f xs g ys (inr (e, r.wins (inr ((λ i. irreflexive S a (subst (Above S a) (sym i) h)), h))))
-                  (λ y m. elim (r.right_else y m) [
-                      inl c ↦ by_equal_argument f xs y c
-                    | inr k ↦ elim k [
-                          inl i ↦ subst (Above S s) i (by_argument_above f xs a b (r.left_in a (inl refl)) h)
-                        | inr k' ↦ all_out rs (λ z j. inner z (r.right_in z (inr j))) all y k' ] ]))
+              (λ y m. elim (r.right_else y m) [
+                | inl c ↦ by_equal_argument f xs y c
+                | inr k ↦ elim k [
+                  | inl i ↦ subst (Above S s) i (by_argument_above f xs a b (r.left_in a (inl refl)) h)
+                  | inr k' ↦ all_out rs (λ z j. inner z (r.right_in z (inr j))) all y k'
+                ]
+              ]))
               (λ h'. all_in rs (λ z j. inner z (r.right_in z (inr j))) (λ y m. above_arguments S s g ys h' y (r.right_in y (inr m))))
           decided is.Equal h go = go (next a b ls rs h r)
           decided is.Neither h go = stands_if s t (some_reaches (standings S ls) t)
               (apart (λ _ i. h.1 (ap (first_or a) (r.same_back i))))
               (λ some. let k = some_out ls others t some in by_reaching S f xs t (k.0, (r.left_in k.0 (inr k.1.0), k.1.1)))
               (λ h'. elim (cases S s t h') [
-                  inl k ↦ elim (r.left_else k.0 k.1.0) [
-                      inl c ↦ absurd (no_return k.0 c k.1.1)
-                    | inr m ↦ elim m [
-                          inl i ↦ absurd (h.0 (subst (λ z. Above S z b) (sym i) (elim k.1.1 [
-                              inl j ↦ subst (λ z. Above S z b) (sym j) (by_equal_argument g ys b (r.right_in b (inl refl)))
-                            | inr up ↦ above_arguments S k.0 g ys up b (r.right_in b (inl refl)) ])))
-                        | inr m' ↦ some_in ls others t k.0 m' k.1.1 ] ]
+                | inl k ↦ elim (r.left_else k.0 k.1.0) [
+                  | inl c ↦ absurd (no_return k.0 c k.1.1)
+                  | inr m ↦ elim m [
+                    | inl i ↦ absurd (h.0 (subst (λ z. Above S z b) (sym i) (elim k.1.1 [
+                      | inl j ↦ subst (λ z. Above S z b) (sym j) (by_equal_argument g ys b (r.right_in b (inl refl)))
+                      | inr up ↦ above_arguments S k.0 g ys up b (r.right_in b (inl refl))
+                    ])))
+                    | inr m' ↦ some_in ls others t k.0 m' k.1.1
+                  ]
+                ]
                 | inr p ↦ elim p.0 [
-                      inl i ↦ absurd (head_apart_back i e)
-                    | inr q ↦ elim (r.wins_back q.1) [ inl w ↦ absurd (h.1 w.0) | inr w ↦ absurd (h.0 w.1) ] ] ])
+                  | inl i ↦ absurd (head_apart_back i e)
+                  | inr q ↦ elim (r.wins_back q.1) [ inl w ↦ absurd (h.1 w.0) | inr w ↦ absurd (h.0 w.1) ]
+                ]
+              ])
 
         whole : Behind xs ys
         whole = record {
@@ -237,10 +256,12 @@ module _ (S : List Symbol) where
 
       node_at : At (node g ys)
       node_at = elim (true_or_false (head_below S f g)) [
-          inl b ↦ subst (Stands s t) (sym (if-true (head_below S f g) _ _ b)) (smaller b)
+        | inl b ↦ subst (Stands s t) (sym (if-true (head_below S f g) _ _ b)) (smaller b)
         | inr n ↦ subst (Stands s t) (sym (if-false (head_below S f g) _ _ n)) (elim (true_or_false (head_below S g f)) [
-              inl b ↦ subst (Stands s t) (sym (if-true (head_below S g f) _ _ b)) (larger b)
-            | inr k ↦ (let e = heads_total S f g n k in subst (Stands s t) (sym (if-false (head_below S g f) _ _ k)) (lists e ys xs (whole e))) ]) ]
+          | inl b ↦ subst (Stands s t) (sym (if-true (head_below S g f) _ _ b)) (larger b)
+          | inr k ↦ (let e = heads_total S f g n k in subst (Stands s t) (sym (if-false (head_below S g f) _ _ k)) (lists e ys xs (whole e)))
+        ])
+      ]
 
     variable_at : (v : Variable) → At (var v)
     variable_at v =
@@ -249,19 +270,24 @@ module _ (S : List Symbol) where
         stands_if s (var v) (first || some)
         (λ i. both_ways true refl (sym (ap is_var i)))
         (λ h. elim (or-true first some h) [
-            inl p ↦ (let two = and-true (is_abstraction v) (foreground S s) p in over_abstraction f xs v two.0 two.1)
-          | inr q ↦ by_reaching S f xs (var v) (some_out xs each (var v) q) ])
+          | inl p ↦ (let two = and-true (is_abstraction v) (foreground S s) p in over_abstraction f xs v two.0 two.1)
+          | inr q ↦ by_reaching S f xs (var v) (some_out xs each (var v) q)
+        ])
         (λ a. elim (cases S s (var v) a) [
-            inl r ↦ or-right first some (some_in xs each (var v) r.0 r.1.0 r.1.1)
-          | inr p ↦ or-left first some (and-in (is_abstraction v) (foreground S s) p.0 p.1) ])
+          | inl r ↦ or-right first some (some_in xs each (var v) r.0 r.1.0 r.1.1)
+          | inr p ↦ or-left first some (and-in (is_abstraction v) (foreground S s) p.0 p.1)
+        ])
 
     at_tree : (t : Tree) → At t
     at_tree = tree_induction At variable_at node_at
 
   variable_stands : (v : Variable) (t : Tree) (b : Bool) → b ≡ same_tree (var v) t → Stands (var v) t (if b then is.Equal else is.Neither)
   variable_stands v t true h = same_tree-true (var v) t (sym h)
-  variable_stands v t false h = ((λ a. cases S (var v) t a), (λ i. both_ways (same_tree (var v) t)
-      (subst (λ z. same_tree (var v) z ≡ true) i (same_tree-refl (var v))) (sym h)))
+  variable_stands v t false h = (
+    (λ a. cases S (var v) t a),
+    (λ i. both_ways (same_tree (var v) t)
+        (subst (λ z. same_tree (var v) z ≡ true) i (same_tree-refl (var v))) (sym h)),
+  )
 
   -- the answer is how the trees stand to each other
   pub standing_told : (s : Tree) → Told s

@@ -44,11 +44,11 @@ FirstDifference _ _ x y = ⊥
 --      of t, and s is above each argument of t.
 pub data Above (signature : List Symbol) : Tree → Tree → Type 0 where
   over_abstraction : (f : Head) (xs : Trees) (v : Variable)
-    → is_abstraction v ≡ true → foreground signature (node f xs) ≡ true → Above signature (node f xs) (var v)
+      → is_abstraction v ≡ true → foreground signature (node f xs) ≡ true → Above signature (node f xs) (var v)
   by_equal_argument : (f : Head) (xs : Trees) (t : Tree) → Member t xs → Above signature (node f xs) t
   by_argument_above : (f : Head) (xs : Trees) (x t : Tree) → Member x xs → Above signature x t → Above signature (node f xs) t
   by_head : (f g : Head) (xs ys : Trees)
-    → head_below signature g f ≡ true → ((y : Tree) → Member y ys → Above signature (node f xs) y) → Above signature (node f xs) (node g ys)
+      → head_below signature g f ≡ true → ((y : Tree) → Member y ys → Above signature (node f xs) y) → Above signature (node f xs) (node g ys)
   by_arguments : (f : Head) (xs ys : Trees) (x y : Tree)
-    → FirstDifference xs ys x y → Above signature x y → ((z : Tree) → Member z ys → Above signature (node f xs) z)
-    → Above signature (node f xs) (node f ys)
+      → FirstDifference xs ys x y → Above signature x y → ((z : Tree) → Member z ys → Above signature (node f xs) z)
+      → Above signature (node f xs) (node f ys)

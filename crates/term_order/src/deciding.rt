@@ -197,5 +197,9 @@ fn by_lists(signature: &[Symbol], s: &Term, t: &Term) -> Standing
             Standing::Neither => return Standing::above_if(some_from(signature, s, passed, t)),
         }
     }
-    if rest.is_empty() { Standing::Equal } else { Standing::Neither }
+    if rest.is_empty() {
+        Standing::Equal
+    } else {
+        Standing::Neither
+    }
 }

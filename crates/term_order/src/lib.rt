@@ -7,6 +7,8 @@ pub mod laws;
 mod literals;
 mod orders;
 mod standing;
+#[cfg(test)]
+mod tests;
 
 pub use literals::is_maximal;
 pub use orders::{Order, compare};

@@ -4,6 +4,7 @@ ghost use Rattle.std.specs.Prelude.{◌≡◌, ◌≢◌, ◌↔◌};
 ghost use Rattle.term_base.specs.Trees.{tree};
 ghost use Rattle.term_order.specs.Above.{Above};
 ghost use Rattle.term_order.specs.Compare as spec;
+ghost use Rattle.term_order.specs.declared.orders.Order.TheVariants as answer;
 
 use crate::deciding::standing;
 use crate::standing::Standing;
@@ -21,10 +22,10 @@ pub enum Order {
 /// The order of two terms over a signature, exactly by the four cases of the order. A symbol's number past the
 /// signature is that of a parameter. Each pair of places of the two terms is looked at once at most.
 pub fn compare(signature: &[Symbol], s: &Term, t: &Term) -> Order
-    ensures above { (result ≡ Order.Above) ↔ Above signature.now (tree s.now) (tree t.now) }
-    ensures below { (result ≡ Order.Below) ↔ Above signature.now (tree t.now) (tree s.now) }
-    ensures equal { (result ≡ Order.Equal) ↔ (s.now ≡ t.now) }
-    ensures open { (result ≡ Order.Open)
+    ensures above { (result ≡ answer.Above) ↔ Above signature.now (tree s.now) (tree t.now) }
+    ensures below { (result ≡ answer.Below) ↔ Above signature.now (tree t.now) (tree s.now) }
+    ensures equal { (result ≡ answer.Equal) ↔ (s.now ≡ t.now) }
+    ensures open { (result ≡ answer.Open)
         ↔ ((Above signature.now (tree s.now) (tree t.now) → ⊥) × (Above signature.now (tree t.now) (tree s.now) → ⊥) × (s.now ≢ t.now)) }
 {
     compared(signature, s, t)

@@ -48,7 +48,7 @@ by_lists-returns-in_default-rest t c =
     let args : arguments s ≡ trees (map tree xs) = arguments-App c.args.s.now c.in-App.field-0 c.in-App.xs xs c.in-App.is (search rules) in
     c.above_if.ensures
     ∙ ap above_if (c.some_from.ensures ∙ ap (λ k. some_of S (behind k (arguments s)) u) c.loop-x.invariant.counted
-      ∙ ap (λ a. some_of S (behind i a) u) args ∙ ap (λ a. some_of S a u) (behind-trees i xs))
+    ∙ ap (λ a. some_of S (behind i a) u) args ∙ ap (λ a. some_of S a u) (behind-trees i xs))
     ∙ sym (c.loop-x.invariant.same ∙ lists_end S s u (drop i xs) c.loop-x.rest.now some c.in_default-rest.len_below)
 
 pub by_lists-returns-in-Above : goal.by_lists-returns-in-Above
@@ -64,8 +64,8 @@ by_lists-returns-in-Above t c =
     c.above_if-in-Above.ensures
     ∙ ap above_if (c.each_from.ensures ∙ ap (λ k. above_each S s (behind k (arguments u))) next ∙ ap (λ a. above_each S s (behind (suc i) a)) args)
     ∙ sym (c.loop-x.invariant.same
-      ∙ lists_above S s u xs ys c.loop-x.rest.now i c.x-item.result c.y-item.result c.loop-x-test.true c.x-item.is c.in-len1-up.len_at_least c.y-item.is
-        c.loop-x.invariant.beside (sym c.standing.ensures ∙ c.in-Above.is))
+    ∙ lists_above S s u xs ys c.loop-x.rest.now i c.x-item.result c.y-item.result c.loop-x-test.true c.x-item.is c.in-len1-up.len_at_least c.y-item.is
+    c.loop-x.invariant.beside (sym c.standing.ensures ∙ c.in-Above.is))
 
 pub by_lists-returns-in-Neither : goal.by_lists-returns-in-Neither
 by_lists-returns-in-Neither t c =
@@ -80,8 +80,8 @@ by_lists-returns-in-Neither t c =
     c.above_if-in-Neither.ensures
     ∙ ap above_if (c.some_from-in-Neither.ensures ∙ ap (λ k. some_of S (behind k (arguments s)) u) next ∙ ap (λ a. some_of S (behind (suc i) a) u) args)
     ∙ sym (c.loop-x.invariant.same
-      ∙ lists_neither S s u xs ys c.loop-x.rest.now i c.x-item.result c.y-item.result c.loop-x-test.true c.x-item.is c.in-len1-up.len_at_least c.y-item.is
-        c.loop-x.invariant.beside (sym c.standing.ensures ∙ c.in-Neither.is))
+    ∙ lists_neither S s u xs ys c.loop-x.rest.now i c.x-item.result c.y-item.result c.loop-x-test.true c.x-item.is c.in-len1-up.len_at_least c.y-item.is
+    c.loop-x.invariant.beside (sym c.standing.ensures ∙ c.in-Neither.is))
 
 pub by_lists-returns-else-is_empty : goal.by_lists-returns-else-is_empty
 by_lists-returns-else-is_empty t c =
