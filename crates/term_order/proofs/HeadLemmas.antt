@@ -1,10 +1,10 @@
 -- The precedence of heads is irreflexive, transitive and total.
-use Rattle.std.proofs.Common.{◌≡◌, ◌⊎◌, inl, inr, ℕ, ℤ, pos, negsuc, Bool, true, false, ◌||◌, ◌&&◌, ◌==◌, not, nat_lt, List, refl, ap, ◌∙◌, arith, unsigned_abs}
+use Rattle.std.proofs.Common.{◌≡◌, ◌⊎◌, inl, inr, ℤ, pos, negsuc, true, false, List, refl, ap, ◌∙◌, arith}
 use Rattle.std.proofs.lemmas.Grind.{common_steps}
 use Rattle.term_base.specs.declared.symbols.Symbol.{Symbol}
-use Rattle.term_base.specs.Purity.{is_foreground, foreground_head}
+use Rattle.term_base.specs.Purity.{foreground_head}
 use Rattle.term_base.specs.Trees.{Head, truth, number, plus, times, symbol}
-use Rattle.term_order.specs.Above.{rank, is_negative, number_below, ranked_below, head_below}
+use Rattle.term_order.specs.Above.{number_below, head_below}
 
 number_below-total : (m n : ℤ) → number_below m n ≡ false → number_below n m ≡ false → m ≡ n
 number_below-total (pos m) (pos n) h k = let e : m ≡ n = grind (arith, common_steps, h, k) in ap pos e
@@ -52,7 +52,3 @@ module _ (S : List Symbol) where
   others_below (number n) g p q = cc
   others_below plus g p q = cc
   others_below times g p q = cc
-
-  -- what is above Scale is above every number
-  pub number_below_product : (k : ℤ) (f : Head) → head_below S times f ≡ true → head_below S (number k) f ≡ true
-  number_below_product k f h = grind (arith, common_steps, h)

@@ -1,5 +1,5 @@
 -- The tests of the order of literals and of maximal literals tell these, and maximal literals were maximal before.
-use Rattle.std.proofs.Common.{◌≡◌, ◌≢◌, ◌⊎◌, inl, inr, ℕ, zero, suc, ◌+◌, ◌<◌, Bool, true, false, not, ◌||◌, ◌&&◌, ◌==◌, nat_lt, List, [], ◌∷◌, map, refl, ap, sym, ◌∙◌, subst, arith, slice_get, get_or, length, option_map, Some, IsTrue}
+use Rattle.std.proofs.Common.{◌≡◌, ◌≢◌, inl, inr, ℕ, zero, suc, ◌+◌, ◌<◌, Bool, true, false, not, ◌||◌, ◌&&◌, ◌==◌, nat_lt, List, [], ◌∷◌, map, refl, ap, sym, ◌∙◌, subst, arith, slice_get, get_or, length, option_map, Some, IsTrue}
 use Rattle.std.specs.Prelude.{◌↔◌}
 use Rattle.std.proofs.lemmas.Grind.{common_steps}
 use Rattle.term_base.specs.declared.symbols.Symbol.{Symbol}
@@ -13,7 +13,7 @@ use Rattle.term_base.specs.Lits.{Lit, lit, put_lit, put_clause}
 use Rattle.term_base.specs.LitLemmas.{item-put}
 use Rattle.term_base.specs.Places.{item}
 use Rattle.term_order.specs.Above.{Above}
-use Rattle.term_order.specs.Literals.{count, More, multiset, MultisetAbove, LiteralAbove, IsMaximal}
+use Rattle.term_order.specs.Literals.{count, More, multiset, LiteralAbove, IsMaximal}
 use Rattle.term_order.specs.LiteralTest.{has_more, side_above, is_below, literal_above, some_above}
 use Rattle.term_order.specs.Standing.{is_above, standing}
 use Rattle.term_order.proofs.MultisetLemmas.{less_or_not, Two, in_two, literal_stays}

@@ -1,29 +1,23 @@
 -- `standing` by its parts.
-use Rattle.std.proofs.Common.{◌≡◌, inl, inr, ℕ, zero, suc, ◌<◌, ◌≤◌, ◌-◌, ◌==◌, Bool, true, false, ◌||◌, ◌&&◌, List, [], ◌∷◌, map, drop, length, get_or, refl, ap, sym, ◌∙◌, subst, if◌then◌else◌, arith}
-use Rattle.std.specs.Prelude.{ℤ}
+use Rattle.std.proofs.Common.{◌≡◌, ℕ, zero, suc, ◌<◌, ◌≤◌, ◌==◌, true, false, ◌||◌, ◌&&◌, List, [], ◌∷◌, map, drop, length, get_or, refl, ap, sym, ◌∙◌, arith}
 use Rattle.term_base.specs.declared.symbols.Symbol.{Symbol}
 use Rattle.term_base.specs.declared.terms.Term.{Term}
 use Rattle.term_base.specs.declared.terms.Term.TheVariants.{App}
 use Rattle.term_base.specs.Purity.{foreground}
 use Rattle.term_base.specs.TreeOf.{tree-App}
-use Rattle.term_base.specs.Trees.{Head, number, times, Tree, Trees, var, node, none, more, tree, trees, same_tree, same_head}
-use Rattle.term_base.specs.TreeLemmas.{both_ways, true_or_false, same_head-refl}
-use Rattle.term_order.specs.Above.{head_below}
-use Rattle.term_order.specs.Standing.{above_if, is_above, reaches, by_standing, some_reaches, above_all, list_standing, node_standing, standing, standings}
+use Rattle.term_base.specs.Trees.{Head, Tree, Trees, var, node, none, more, tree, trees, same_tree, same_head}
+use Rattle.term_base.specs.TreeLemmas.{both_ways, same_head-refl}
+use Rattle.term_order.specs.Standing.{above_if, is_above, reaches, by_standing, some_reaches, above_all, list_standing, standing, standings}
 use Rattle.term_order.specs.Parts.{equal_if, is_variable, is_abstraction, arguments, behind, has_smaller_head, has_same_head, some_of, above_each, by_lists}
 use Rattle.term_order.specs.declared.standing.Standing.{Standing}
 use Rattle.term_order.specs.declared.standing.Standing.TheVariants as is
-use Rattle.term_order.proofs.HeadLemmas.{below_itself, below_below, heads_total, number_below_product}
+use Rattle.term_order.proofs.HeadLemmas.{heads_total}
 
 -- the terms without the first n, as trees
 pub behind-trees : (n : ℕ) (ts : List Term) → behind n (trees (map tree ts)) ≡ trees (map tree (drop n ts))
 behind-trees zero ts = refl
 behind-trees (suc n) [] = refl
 behind-trees (suc n) (t ∷ ts) = behind-trees n ts
-
-pub behind-more : (n : ℕ) (x : Tree) (xs : Trees) → 0 < n → behind n (more x xs) ≡ behind (n - 1) xs
-behind-more zero x xs h = absurd (omega arith)
-behind-more (suc n) x xs h = let e : suc n - 1 ≡ n = omega arith in ap (λ k. behind k xs) (sym e)
 
 pub behind-none : (n : ℕ) → behind n none ≡ none
 behind-none zero = refl
@@ -134,14 +128,3 @@ module _ (S : List Symbol) where
   of_level (node f xs) (node g ys) a b h k =
       let e : standing S (node f xs) (node g ys) ≡ list_standing S f xs (standings S xs) (node g ys) ys (standings S xs) = rw (sym h, sym k) refl in
       e ∙ by-lists f xs (node g ys) ys xs
-
-  -- a term whose head is above that of a product is above every number
-  pub above_number : (s : Tree) (xs : Trees) (k : ℤ) → has_smaller_head S (node times xs) s ≡ true → is_above (standing S s (node (number k) none)) ≡ true
-  above_number (var v) xs k h = absurd (both_ways false h refl)
-  above_number (node f ys) xs k h =
-      let b : head_below S (number k) f ≡ true = number_below_product S k f h in
-      let n : head_below S f (number k) ≡ false = elim (true_or_false (head_below S f (number k))) [
-        | inl p ↦ absurd (below_itself S f (below_below S f (number k) f p b))
-        | inr q ↦ q
-      ] in
-      rw (n, b) refl

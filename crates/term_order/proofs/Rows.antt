@@ -1,5 +1,5 @@
 -- Small cases of the order. s0 is a function of one integer.
-use Rattle.std.proofs.Common.{◌≡◌, inl, inr, ℤ, pos, negsuc, true, false, List, [], ◌∷◌, Some, refl}
+use Rattle.std.proofs.Common.{◌≡◌, inl, inr, ℤ, pos, negsuc, false, List, [], ◌∷◌, refl}
 use Rattle.term_base.specs.declared.symbols.Class.TheVariants as class
 use Rattle.term_base.specs.declared.symbols.Sort.TheVariants.{Int}
 use Rattle.term_base.specs.declared.symbols.Symbol.{Symbol}

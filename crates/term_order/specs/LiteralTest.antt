@@ -1,7 +1,7 @@
 -- The order of literals as a test, side by side.
-use Rattle.std.specs.Prelude.{ℕ, suc, Bool, false, not, ◌||◌, ◌&&◌, ◌==◌, ◌+◌, nat_lt, if◌then◌else◌, List, [], ◌∷◌}
+use Rattle.std.specs.Prelude.{ℕ, Bool, false, not, ◌||◌, ◌&&◌, ◌==◌, ◌+◌, nat_lt, List, [], ◌∷◌}
 use Rattle.term_base.specs.declared.symbols.Symbol.{Symbol}
-use Rattle.term_base.specs.Trees.{Tree, same_tree}
+use Rattle.term_base.specs.Trees.{Tree}
 use Rattle.term_base.specs.Lits.{Lit}
 use Rattle.term_order.specs.Literals.{count, multiset}
 use Rattle.term_order.specs.Standing.{is_above, standing}

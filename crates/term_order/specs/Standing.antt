@@ -2,8 +2,8 @@
 use Rattle.std.specs.Prelude.{Bool, true, false, ◌||◌, ◌&&◌, if◌then◌else◌, List, [], ◌∷◌}
 use Rattle.term_base.specs.declared.symbols.Symbol.{Symbol}
 use Rattle.term_base.specs.Purity.{foreground, is_abstraction}
-use Rattle.term_base.specs.Trees.{Head, Tree, Trees, var, node, none, more, same_tree, same_head}
-use Rattle.term_order.specs.Above.{head_below, rank}
+use Rattle.term_base.specs.Trees.{Head, Tree, Trees, var, node, none, more, same_tree}
+use Rattle.term_order.specs.Above.{head_below}
 use Rattle.term_order.specs.declared.standing.Standing.{Standing}
 use Rattle.term_order.specs.declared.standing.Standing.TheVariants as is
 

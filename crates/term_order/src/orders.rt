@@ -20,13 +20,14 @@ pub enum Order {
 }
 
 /// The order of two terms over a signature, exactly by the four cases of the order. A symbol's number past the
-/// signature is that of a parameter. Each pair of places of the two terms is looked at once at most.
+/// signature is that of a parameter. In each direction every pair of places of the two terms is looked at once
+/// at most.
 pub fn compare(signature: &[Symbol], s: &Term, t: &Term) -> Order
     ensures above { (result ≡ answer.Above) ↔ Above signature.now (tree s.now) (tree t.now) }
     ensures below { (result ≡ answer.Below) ↔ Above signature.now (tree t.now) (tree s.now) }
     ensures equal { (result ≡ answer.Equal) ↔ (s.now ≡ t.now) }
     ensures open { (result ≡ answer.Open)
-        ↔ ((Above signature.now (tree s.now) (tree t.now) → ⊥) × (Above signature.now (tree t.now) (tree s.now) → ⊥) × (s.now ≢ t.now)) }
+        ↔ ((¬ (Above signature.now (tree s.now) (tree t.now))) × (¬ (Above signature.now (tree t.now) (tree s.now))) × (s.now ≢ t.now)) }
 {
     compared(signature, s, t)
 }

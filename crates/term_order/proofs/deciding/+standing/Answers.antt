@@ -1,9 +1,9 @@
-use Rattle.std.proofs.Common.{◌≡◌, ◌||◌, Bool, true, ◌∙◌, sym, ap, List, [], map, drop, length, suc, ◌+◌, ◌<◌, arith, rules}
+use Rattle.std.proofs.Common.{◌≡◌, ◌||◌, Bool, ◌∙◌, sym, ap, [], map, drop, length, suc, ◌+◌, ◌<◌, arith, rules}
 use Rattle.std.proofs.lemmas.Grind.{common_steps}
 use Rattle.term_base.specs.Trees.{tree, trees}
 use Rattle.term_order.specs.Standing.{above_if}
 use Rattle.term_order.specs.Parts.{equal_if, arguments, behind, some_of, above_each, by_lists}
-use Rattle.term_order.proofs.PartLemmas.{arguments-App, behind-none, behind-trees, lists_above, lists_end, lists_neither, lists_none, of_variable, over_variable, of_smaller, of_larger, of_level, level_heads}
+use Rattle.term_order.proofs.PartLemmas.{arguments-App, behind-none, behind-trees, lists_above, lists_end, lists_neither, lists_none, of_variable, over_variable, of_smaller, of_larger, of_level}
 use Rattle.term_order.proofs.deciding.+standing.Goals as goal
 
 pub standing-returns-then-is_variable : goal.standing-returns-then-is_variable
