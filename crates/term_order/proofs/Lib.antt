@@ -1,0 +1,8 @@
+pub mod AboveLemmas
+pub mod CompareLemmas
+pub mod HeadLemmas
+pub mod LiteralLemmas
+pub mod MultisetLemmas
+pub mod PartLemmas
+mod Rows
+pub mod StandingLemmas

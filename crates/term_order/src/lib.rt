@@ -1,0 +1,14 @@
+//! The order of terms and of literals.
+#![tactic(auto)]
+
+mod deciding;
+mod heads;
+pub mod laws;
+mod literals;
+mod orders;
+mod standing;
+#[cfg(test)]
+mod tests;
+
+pub use literals::is_maximal;
+pub use orders::{Order, compare};
