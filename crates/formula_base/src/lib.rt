@@ -2,9 +2,11 @@
 #![tactic(auto)]
 
 mod formulas;
+mod laws;
 mod problems;
 
 pub use formulas::{Formula, copy_formulas};
+pub use laws::definitions_give_rows;
 pub use problems::{Problem, copy_symbols};
 
 #[cfg(test)]

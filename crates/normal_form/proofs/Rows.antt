@@ -6,12 +6,13 @@ use Rattle.term_base.specs.declared.terms.Term.TheVariants as term
 use Rattle.term_base.specs.TermFolds.{fold-Var}
 use Rattle.formula_base.specs.declared.formulas.Formula.{Formula}
 use Rattle.formula_base.specs.declared.formulas.Formula.TheVariants as f
+use Rattle.formula_base.specs.Rows.{x, y}
 use Rattle.formula_base.specs.FormulaFolds.{fold-Less, fold-All, fold-Some, fold-Atom, fold-And, fold-Or}
 use Rattle.normal_form.specs.declared.scopes.Scope.{Scope}
 use Rattle.normal_form.specs.Clauses.{nothing_bound}
 use Rattle.normal_form.specs.Cnf.{Meaning, cnf, cnf_step, instance, instance_step, at_variable, less, unit, quantified, with_universal, with_skolem}
 use Rattle.normal_form.specs.Count.{Number, number, number_step}
-use Rattle.normal_form.specs.Rows.{Less, NotLess, x, y, BoundedBelow, NotBoundedBelow, Joined, Counted}
+use Rattle.normal_form.specs.Rows.{Less, NotLess, BoundedBelow, NotBoundedBelow, Joined, Counted}
 
 at_less : (sign : Bool) (s u : Term) (scope : Scope) (next : ℕ) → cnf (f.Less s u) sign scope next ≡ unit (less sign (instance scope s) (instance scope u))
 at_less true s u scope next = ap (λ (m : Meaning). m true scope next) (fold-Less Meaning cnf_step s u)

@@ -1,13 +1,10 @@
 -- Worked rows of the definition.
-use Rattle.std.specs.Prelude.{◌≡◌, ℕ, true, false, [], ◌∷◌, ◌++◌, replicate, refl}
-use Rattle.term_base.specs.declared.symbols.Sort.TheVariants.{Int}
-use Rattle.term_base.specs.declared.variables.Kind.TheVariants.{Abstraction}
-use Rattle.term_base.specs.declared.variables.Variable.{Variable}
+use Rattle.std.specs.Prelude.{◌≡◌, ℕ, true, false, [], ◌∷◌, ◌++◌, replicate}
 use Rattle.term_base.specs.declared.terms.Term.{Term}
 use Rattle.term_base.specs.declared.terms.Term.TheVariants as term
 use Rattle.term_base.specs.declared.clauses.Literal.TheVariants as literal
-use Rattle.formula_base.specs.declared.formulas.Formula.{Formula}
 use Rattle.formula_base.specs.declared.formulas.Formula.TheVariants as f
+use Rattle.formula_base.specs.Rows.{x, y, bounded_below}
 use Rattle.normal_form.specs.declared.scopes.Scope.{Scope}
 use Rattle.normal_form.specs.Cnf.{Literals, cnf, instance, joined, plus_one, skolem, unit}
 use Rattle.normal_form.specs.Clauses.{nothing_bound}
@@ -21,24 +18,14 @@ Less = (s u : Term) (scope : Scope) (next : ℕ) → cnf (f.Less s u) true scope
 abbrev pub NotLess : Type 0
 NotLess = (s u : Term) (scope : Scope) (next : ℕ) → cnf (f.Less s u) false scope next ≡ unit (literal.AtMost (instance scope u) (instance scope s))
 
-abbrev pub x : Variable
-x = record { kind = Abstraction; sort = Int; id = 0; proper = refl }
-
-abbrev pub y : Variable
-y = record { kind = Abstraction; sort = Int; id = 1; proper = refl }
-
--- ! [X] : ? [Y] : Y < X
-abbrev pub bounded_below : Formula
-bounded_below = f.All (x ∷ []) (f.Some (y ∷ []) (f.Less (term.Var y) (term.Var x)))
-
--- X is universal, and Y is replaced by the Skolem symbol 4 at X
+-- in ! [X] : ? [Y] : Y < X, X is universal, and Y is replaced by the Skolem symbol 4 at X
 abbrev pub BoundedBelow : Type 0
 BoundedBelow = cnf bounded_below true nothing_bound 4 ≡ record {
   clauses = (literal.AtMost (plus_one (term.App 4 (term.Var x ∷ []))) (term.Var x) ∷ []) ∷ [];
   symbols = skolem (x ∷ []) y ∷ [];
 }
 
--- X is replaced by the Skolem symbol 4 without arguments, and Y is universal
+-- with minus X is replaced by the Skolem symbol 4 without arguments, and Y is universal
 abbrev pub NotBoundedBelow : Type 0
 NotBoundedBelow = cnf bounded_below false nothing_bound 4 ≡ record {
   clauses = (literal.AtMost (term.App 4 []) (term.Var y) ∷ []) ∷ [];
