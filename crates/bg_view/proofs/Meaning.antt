@@ -14,13 +14,13 @@ use Rattle.term_base.specs.TreeLemmas.{both_ways}
 use Rattle.lin_base.specs.declared.sums.Lin.{Lin}
 use Rattle.lin_base.specs.Whole.{is_zero, is_same}
 use Rattle.lin_base.specs.Sum as sum
-use Rattle.lin_base.specs.Sum.{Valuation, negated}
+use Rattle.lin_base.specs.Sum.{Valuation, above, negated}
 use Rattle.lin_base.specs.Fact.{holds}
 use Rattle.lin_base.proofs.Ring.{one_mul, same_test, le_in, is_zero_out}
-use Rattle.lin_base.proofs.Values.{value-add, value-scale, value-negated, value-number, value-add_number}
+use Rattle.lin_base.proofs.Values.{value-add, value-scale, value-negated, value-number, value-add_number, value-above}
 use Rattle.bg_view.specs.Unknowns.{Numbering}
 use Rattle.bg_view.specs.Linear.{Formed, linear_step, linear, one_unknown, difference}
-use Rattle.bg_view.specs.View.{Facts, truth_step, is_truth, above, yes, no, equal, differ, literal_view, negated_view, literals_facts}
+use Rattle.bg_view.specs.View.{Facts, truth_step, is_truth, yes, no, equal, differ, literal_view, negated_view, literals_facts}
 use Rattle.bg_view.specs.Truth.{Symbols, Variables, value_step, value, literal_holds}
 
 -- ---- tests of whole numbers
@@ -124,12 +124,9 @@ module _ (n : Numbering) (v : Valuation) where
       (λ h. sym (ap not (truths_same s t h)))
       (λ _. let d = (difference n s t).sum in
       ap (λ z. int_le z (pos 0) || (int_le (sum.value v (above d)) (pos 0) || false)) (value-add_number v d (pos 1))
-      ∙ ap (λ z. int_le (sum.value v d +ℤ pos 1) (pos 0) || (int_le z (pos 0) || false)) (value-above d)
+      ∙ ap (λ z. int_le (sum.value v d +ℤ pos 1) (pos 0) || (int_le z (pos 0) || false)) (value-above v d)
       ∙ apart_from_zero (sum.value v d)
       ∙ ap (λ z. not (is_zero z)) (value-difference s t))
-    where
-      value-above : (d : Lin) → sum.value v (above d) ≡ neg_ℤ (sum.value v d) +ℤ pos 1
-      value-above d = omega (arith, ints, value-add_number v (negated d) (pos 1), value-negated v d)
 
   inequality_means : (s t : Term) → (int_le (sum.value v (difference n s t).sum) (pos 0) || false) ≡ int_le (at_term s) (at_term t)
   inequality_means s t = or_false _ ∙ ap (λ z. int_le z (pos 0)) (value-difference s t) ∙ at_most_zero (at_term s) (at_term t)
@@ -137,8 +134,7 @@ module _ (n : Numbering) (v : Valuation) where
   strict_means : (s t : Term) → (int_le (sum.value v (above (difference n s t).sum)) (pos 0) || false) ≡ not (int_le (at_term s) (at_term t))
   strict_means s t =
       let d = (difference n s t).sum in
-      let value-above : sum.value v (above d) ≡ neg_ℤ (sum.value v d) +ℤ pos 1 = omega (arith, ints, value-add_number v (negated d) (pos 1), value-negated v d) in
-      or_false _ ∙ ap (λ z. int_le z (pos 0)) value-above ∙ above_zero (sum.value v d)
+      or_false _ ∙ ap (λ z. int_le z (pos 0)) (value-above v d) ∙ above_zero (sum.value v d)
       ∙ ap (λ z. not (int_le z (pos 0))) (value-difference s t) ∙ ap not (at_most_zero (at_term s) (at_term t))
 
   pub literal_means : (l : Literal) → some (literal_view n l) ≡ literal_holds at_symbols at_variables l

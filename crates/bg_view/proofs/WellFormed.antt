@@ -13,10 +13,10 @@ use Rattle.term_base.specs.TermInduction.{term_induction}
 use Rattle.lin_base.specs.declared.sums.Lin.{Lin}
 use Rattle.lin_base.specs.Sum.{negated}
 use Rattle.lin_base.specs.Fact.{is_lin, is_fact, is_pool}
-use Rattle.lin_base.proofs.WellFormed.{is_lin-add, is_lin-scale, is_lin-add_number}
+use Rattle.lin_base.proofs.WellFormed.{is_lin-add, is_lin-scale, is_lin-add_number, is_lin-above}
 use Rattle.bg_view.specs.Unknowns.{Numbering}
 use Rattle.bg_view.specs.Linear.{Formed, linear_step, linear, difference}
-use Rattle.bg_view.specs.View.{is_truth, above, yes, no, equal, differ, literal_view, negated_view, literals_facts, negated_facts, clause_numbering, clauses_facts, view_of, target_numbering, entail_params, entail_pool_of}
+use Rattle.bg_view.specs.View.{is_truth, yes, no, equal, differ, literal_view, negated_view, literals_facts, negated_facts, clause_numbering, clauses_facts, view_of, target_numbering, entail_params, entail_pool_of}
 
 module _ (n : Numbering) where
   pub is_lin-linear : (t : Term) → is_lin (linear n t).sum ≡ true
@@ -31,9 +31,6 @@ module _ (n : Numbering) where
   is_lin-difference : (s t : Term) → is_lin (difference n s t).sum ≡ true
   is_lin-difference s t =
       is_lin-add (linear n s).sum (negated (linear n t).sum) (is_lin-linear s) (is_lin-scale (negsuc 0) (linear n t).sum (is_lin-linear t))
-
-  is_lin-above : (t : Lin) → is_lin t ≡ true → is_lin (above t) ≡ true
-  is_lin-above t h = is_lin-add_number (negated t) (pos 1) (is_lin-scale (negsuc 0) t h)
 
   equation_facts : (s t : Term) → list_all is_fact (if is_truth s && is_truth t then yes else equal (difference n s t)).facts ≡ true
   equation_facts s t =

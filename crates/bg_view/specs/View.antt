@@ -13,9 +13,9 @@ use Rattle.lin_base.specs.declared.facts.Pool.{Pool}
 use Rattle.lin_base.specs.declared.wides.Wide.{Wide}
 use Rattle.lin_base.specs.declared.wides.ArithmeticError.{ArithmeticError}
 use Rattle.lin_base.specs.declared.wides.ArithmeticError.TheVariants as arithmetic
-use Rattle.lin_base.specs.Sum.{negated, number, add_number}
+use Rattle.lin_base.specs.Sum.{number, add_number, above}
 use Rattle.lin_base.specs.Steps as arithmetic_steps
-use Rattle.lin_base.specs.Steps.{first_wide, negated_steps, add_number_steps}
+use Rattle.lin_base.specs.Steps.{first_wide, add_number_steps, above_steps}
 use Rattle.bg_view.specs.declared.viewing.Viewed.{Viewed}
 use Rattle.bg_view.specs.declared.viewing.WideAt.{WideAt}
 use Rattle.bg_view.specs.declared.viewing.ViewError.{ViewError}
@@ -45,14 +45,6 @@ pub record Facts : Type 0 where
 -- the answer of a call that forms these facts
 abbrev pub Gives : Result (List Fact) ArithmeticError → Facts → Type 0
 Gives r f = arithmetic_steps.Forms r f.steps f.facts
-
--- `-t + 1`
-abbrev pub above : Lin → Lin
-above t = add_number (negated t) (pos 1)
-
--- the product with -1, then the sum with 1
-abbrev pub above_steps : Lin → List Wide
-above_steps t = negated_steps t ++ add_number_steps (negated t) (pos 1)
 
 -- `t <= 0`
 abbrev pub at_most : Formed → Facts

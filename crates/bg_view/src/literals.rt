@@ -9,7 +9,7 @@ ghost use Rattle.bg_view.specs.View as spec;
 
 use crate::linear::difference;
 use crate::unknowns::Unknowns;
-use lin_base::{ArithmeticError, Fact, Lin, add_number, negate, number};
+use lin_base::{ArithmeticError, Fact, Lin, above, add_number, number};
 use sqlite_items::Items;
 use std::alloc::{AllocError, Global};
 use term_base::{Literal, Term};
@@ -28,15 +28,6 @@ fn two_facts(alloc: Global, fact: Fact, other: Fact) -> Result<Items<Fact>, Allo
     let mut facts = one_fact(alloc, fact)?;
     facts.push(other)?;
     Ok(facts)
-}
-
-/// `-t + 1`
-#[tactic(auto, using(crate::proofs::Forming::forming))]
-fn above(alloc: Global, t: &Lin) -> Result<Lin, ArithmeticError>
-    requires { IsTrue (is_lin t.now) }
-    ensures { Forms result (spec.above_steps t.now) (spec.above t.now) }
-{
-    add_number(alloc, &negate(alloc, t)?, 1)
 }
 
 /// `t + 1 <= 0` and `-t + 1 <= 0`

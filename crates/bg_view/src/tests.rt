@@ -227,6 +227,137 @@ fn two_bounds(rt: HostRuntime) -> Result<(), Fail> {
     Ok(())
 }
 
+fn push_at_most(clauses: &mut Items<Clause>, s: Term, t: Term, alloc: Global) -> Result<(), AllocError> {
+    let clause = unit(alloc, Literal::AtMost(s, t))?;
+    clauses.push(clause)
+}
+
+fn view_all(alloc: Global, clauses: &[Clause]) -> Result<Viewed, ViewError> {
+    if !are_background(&[], clauses) {
+        return Err(ViewError::Memory);
+    }
+    view(alloc, &[], clauses)
+}
+
+// 1 <= s1 and s1 + 1 <= s2 and s2 <= 1
+fn rising(alloc: Global) -> Result<Items<Clause>, AllocError> {
+    let mut clauses = Items::new(alloc);
+    push_at_most(&mut clauses, Term::Num(1), s(alloc, 1), alloc)?;
+    let next = Term::sum(alloc, s(alloc, 1), Term::Num(1))?;
+    push_at_most(&mut clauses, next, s(alloc, 2), alloc)?;
+    push_at_most(&mut clauses, s(alloc, 2), Term::Num(1), alloc)?;
+    Ok(clauses)
+}
+
+// -u0 + 1 <= 0; u0 - u1 + 1 <= 0; u1 - 1 <= 0
+fn is_rising(viewed: &Viewed) -> bool {
+    match viewed.pool.clauses.as_slice() {
+        [first, second, third] => is_at_most(first, &[(0, -1)], 1)
+            && is_at_most(second, &[(0, 1), (1, -1)], 1)
+            && is_at_most(third, &[(1, 1)], -1),
+        _ => false,
+    }
+}
+
+#[test]
+fn rising_values(rt: HostRuntime) -> Result<(), Fail> {
+    let clauses = rising(rt.alloc())?;
+    let Ok(viewed) = view_all(rt.alloc(), clauses.as_slice()) else {
+        panic!(rt; "no view");
+    };
+    assert!(rt; viewed.symbols.as_slice() == [1, 2].as_slice() && viewed.pool.params == 2);
+    assert!(rt; is_rising(&viewed));
+    Ok(())
+}
+
+// (2 * s0) <= 1 and 1 <= s0
+fn half_and_one(alloc: Global) -> Result<Items<Clause>, AllocError> {
+    let mut clauses = Items::new(alloc);
+    let twice = Term::scale(alloc, 2, s(alloc, 0))?;
+    push_at_most(&mut clauses, twice, Term::Num(1), alloc)?;
+    push_at_most(&mut clauses, Term::Num(1), s(alloc, 0), alloc)?;
+    Ok(clauses)
+}
+
+// 2u0 - 1 <= 0; -u0 + 1 <= 0
+fn is_half_and_one(viewed: &Viewed) -> bool {
+    match viewed.pool.clauses.as_slice() {
+        [first, second] => is_at_most(first, &[(0, 2)], -1) && is_at_most(second, &[(0, -1)], 1),
+        _ => false,
+    }
+}
+
+#[test]
+fn a_half_and_one(rt: HostRuntime) -> Result<(), Fail> {
+    let clauses = half_and_one(rt.alloc())?;
+    let Ok(viewed) = view_all(rt.alloc(), clauses.as_slice()) else {
+        panic!(rt; "no view");
+    };
+    assert!(rt; viewed.pool.params == 1 && is_half_and_one(&viewed));
+    Ok(())
+}
+
+// s0 <= 0 | s0 <= -1
+fn low_or_lower(alloc: Global) -> Result<Clause, AllocError> {
+    let mut literals = Items::new(alloc);
+    literals.push(Literal::AtMost(s(alloc, 0), Term::Num(0)))?;
+    literals.push(Literal::AtMost(s(alloc, 0), Term::Num(-1)))?;
+    Ok(Clause { literals })
+}
+
+// s0 <= 0
+fn low(alloc: Global) -> Result<Clause, AllocError> {
+    unit(alloc, Literal::AtMost(s(alloc, 0), Term::Num(0)))
+}
+
+// one clause without another
+fn without(alloc: Global, clause: Clause, target: &Clause) -> Result<Viewed, ViewError> {
+    let mut clauses = Items::new(alloc);
+    clauses.push(clause)?;
+    entail_view_of(alloc, clauses.as_slice(), target)
+}
+
+// u0 <= 0 or u0 + 1 <= 0; -u0 + 1 <= 0
+fn is_low_or_lower_not_low(viewed: &Viewed) -> bool {
+    let [either, unit] = viewed.pool.clauses.as_slice() else {
+        return false;
+    };
+    let [Fact::AtMostZero(low), Fact::AtMostZero(lower)] = either.as_slice() else {
+        return false;
+    };
+    is_sum(low, &[(0, 1)], 0) && is_sum(lower, &[(0, 1)], 1) && is_at_most(unit, &[(0, -1)], 1)
+}
+
+#[test]
+fn an_entailed_literal(rt: HostRuntime) -> Result<(), Fail> {
+    let target = low(rt.alloc())?;
+    let Ok(viewed) = without(rt.alloc(), low_or_lower(rt.alloc())?, &target) else {
+        panic!(rt; "no view");
+    };
+    assert!(rt; is_low_or_lower_not_low(&viewed));
+    Ok(())
+}
+
+// u0 <= 0; -u0 + 1 <= 0; -u0 <= 0
+fn is_low_not_low_nor_lower(viewed: &Viewed) -> bool {
+    match viewed.pool.clauses.as_slice() {
+        [low, not_low, not_lower] => is_at_most(low, &[(0, 1)], 0)
+            && is_at_most(not_low, &[(0, -1)], 1)
+            && is_at_most(not_lower, &[(0, -1)], 0),
+        _ => false,
+    }
+}
+
+#[test]
+fn an_entailed_clause(rt: HostRuntime) -> Result<(), Fail> {
+    let target = low_or_lower(rt.alloc())?;
+    let Ok(viewed) = without(rt.alloc(), low(rt.alloc())?, &target) else {
+        panic!(rt; "no view");
+    };
+    assert!(rt; is_low_not_low_nor_lower(&viewed));
+    Ok(())
+}
+
 fn is_wide_at(viewed: &Result<Viewed, ViewError>, clause: u32, wide: Wide) -> bool {
     match viewed {
         Err(ViewError::Wide(at)) => at.clause == clause && at.wide == wide,
