@@ -1,6 +1,7 @@
 //! Sums that are formed within the range, as a node's children need them.
 
-ghost use Rattle.std.specs.Prelude.{◌≡◌, IfOk, IfSome, IsTrue};
+ghost use Rattle.std.specs.Prelude.{◌≡◌, IfErr, IfOk, IfSome, IsTrue};
+ghost use Rattle.lin_base.specs.declared.wides.ArithmeticError.TheVariants.{Memory};
 ghost use Rattle.lin_base.specs.Fact.{is_lin};
 ghost use Rattle.lin_base.specs.Sum as sum;
 ghost use Rattle.lin_base.specs.Sum.{coef};
@@ -13,9 +14,10 @@ ghost use Rattle.cert_tree.specs.Sides.{side_of};
 use lin_base::{ArithmeticError, Lin, add_number, checked_mul, coef, negate, without};
 use std::alloc::{AllocError, Global};
 
-/// The value, or None where a number left the range.
+/// The value, or None where a number left the range. Want of memory is told where it was told.
 pub fn narrow<T: Drop>(formed: Result<T, ArithmeticError>) -> Result<Option<T>, AllocError>
-    ensures { IfOk result (IsValueOf formed) }
+    ensures value { IfOk result (IsValueOf formed) }
+    ensures memory { IfErr result (λ _. formed ≡ Err Memory) }
 {
     match formed {
         Ok(value) => Ok(Some(value)),
