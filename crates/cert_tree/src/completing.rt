@@ -34,7 +34,7 @@ fn length_of(count: &i128) -> Result<usize, ArithmeticError>
 
 /// `b*x + u` with `b` positive, of an AtMostZero fact, or of a Zero fact made so.
 #[tactic(auto, using(crate::proofs::Forming::forming))]
-fn formed_upper(alloc: Global, x: u32, fact: &Fact) -> Result<Option<Side>, ArithmeticError>
+pub fn formed_upper(alloc: Global, x: u32, fact: &Fact) -> Result<Option<Side>, ArithmeticError>
     requires { IsTrue (is_fact fact.now) }
     ensures { Forms result (spec.upper_steps (spec.upper x fact.now)) (option_map side_of (spec.upper x fact.now)) }
 {
