@@ -72,6 +72,23 @@ formed_by-ok steps a v h = unless-ok (first_wide steps) a v h
 pub formed_by-err : {A : Type 0} (steps : List Wide) (a : A) (w : Wide) → formed_by steps a ≡ Err w → first_wide steps ≡ Some w
 formed_by-err steps a w h = unless-err (first_wide steps) a w h
 
+-- the answer of a call without memory
+pub formed_by-narrow : {A : Type 0} (steps : List Wide) (a v : A) → first_wide steps ≡ None → v ≡ a → Ok v ≡ formed_by steps a
+formed_by-narrow steps a v h e = ap Ok e ∙ ap (λ o. unless o a) (sym h)
+
+pub formed_by-wide : {A : Type 0} (steps : List Wide) (a : A) (w : Wide) → first_wide steps ≡ Some w → Err w ≡ formed_by steps a
+formed_by-wide steps a w h = ap (λ o. unless o a) (sym h)
+
+-- two calls without memory, one after the other
+pub formed_by-first : {A B : Type 0} (ss ts : List Wide) (a : A) (b : B) (w : Wide) → formed_by ss a ≡ Err w → Err w ≡ formed_by (ss ++ ts) b
+formed_by-first ss ts a b w h = formed_by-wide (ss ++ ts) b w (first_wide-append_some ss ts w (formed_by-err ss a w h))
+
+pub formed_by-last : {A B C : Type 0} (ss ts : List Wide) (a v : A) (b : B) (c : C) (w : Wide) → formed_by ss a ≡ Ok v → formed_by ts c ≡ Err w → Err w ≡ formed_by (ss ++ ts) b
+formed_by-last ss ts a v b c w h g = formed_by-wide (ss ++ ts) b w (first_wide-append_none ss ts (formed_by-ok ss a v h).0 ∙ formed_by-err ts c w g)
+
+pub formed_by-both : {A C : Type 0} (ss ts : List Wide) (a v : A) (c u : C) → formed_by ss a ≡ Ok v → formed_by ts c ≡ Ok u → first_wide (ss ++ ts) ≡ None
+formed_by-both ss ts a v c u h g = first_wide-append_none ss ts (formed_by-ok ss a v h).0 ∙ (formed_by-ok ts c u g).0
+
 -- a property of the value that a call forms
 pub Forms-value : {A : Type 0} (P : A → Type 0) (r : Result A ArithmeticError) (steps : List Wide) (a : A) → Forms r steps a → P a → IfOk r P
 Forms-value P (Ok v) steps a h p = subst P (sym h.0.1) p

@@ -12,5 +12,6 @@ pub mod Scaling
 pub mod Merging
 pub mod WellFormed
 pub mod Lookup
+pub mod Occurring
 pub mod Equality
 pub mod Kept

@@ -9,7 +9,7 @@ use Rattle.std.proofs.lemmas.Bool.Decides.{nat_tests}
 use Rattle.lin_base.specs.declared.sums.Lin.{Lin}
 use Rattle.lin_base.specs.declared.facts.Fact.{Fact}
 use Rattle.lin_base.specs.declared.facts.Fact.TheVariants.{AtMostZero, Zero, Divides, NotDivides}
-use Rattle.lin_base.specs.Sum.{Terms, Valuation, value, value_of_terms, coef_in, has_unknown}
+use Rattle.lin_base.specs.Sum.{Terms, Valuation, value, value_of_terms, coef_in, has_unknown, scale, scale_terms}
 use Rattle.lin_base.specs.Fact.{is_ascending, holds, holds_at, sum_of}
 use Rattle.lin_base.proofs.Merging.{is_below, ascending_parts}
 
@@ -20,7 +20,7 @@ coef_in-below x ((y, k) ∷ ts) h =
     let other : (y == x) ≡ false = grind (arith, nat_tests) in
     ap (λ b. cond b (k +ℤ coef_in x ts) (coef_in x ts)) other ∙ coef_in-below x ts both.1
 
-coef_in-first : (e : ℕ × ℤ) (ts : Terms) → is_ascending (e ∷ ts) ≡ true → coef_in e.0 (e ∷ ts) ≡ e.1
+pub coef_in-first : (e : ℕ × ℤ) (ts : Terms) → is_ascending (e ∷ ts) ≡ true → coef_in e.0 (e ∷ ts) ≡ e.1
 coef_in-first e ts h =
     let same : (e.0 == e.0) ≡ true = grind (arith, nat_tests) in
     ap (λ b. cond b (e.1 +ℤ coef_in e.0 ts) (coef_in e.0 ts)) same ∙ omega (arith, ints, coef_in-below e.0 ts (ascending_parts e ts h).0)
@@ -30,6 +30,17 @@ pub coef_in-drop : (ts : Terms) (i : ℕ) → IsTrue (is_ascending (drop i ts)) 
 coef_in-drop ts i ascending h =
     let e = get_or ts i (0, pos 0) in
     at_drop_more (coef_in e.0) ts i (0, pos 0) h ∙ coef_in-first e (drop (i + 1) ts) (sym (at_drop_more is_ascending ts i (0, pos 0) h) ∙ ascending)
+
+-- a sum without unknown has no term, and nor has its multiple
+pub no_terms : (t : Lin) → has_unknown t ≡ false → t.coefs ≡ []
+no_terms t h = at_terms t.coefs h
+  where
+    at_terms : (ts : Terms) → list_any (λ e. true) ts ≡ false → ts ≡ []
+    at_terms [] c = refl
+    at_terms (e ∷ ts) c = cc
+
+pub has_unknown-scale : (k : ℤ) (t : Lin) → has_unknown t ≡ false → has_unknown (scale k t) ≡ false
+has_unknown-scale k t h = ap (λ ts. list_any (λ e. true) (scale_terms k ts)) (no_terms t h)
 
 -- a sum without unknown is its constant
 pub value-constant : (v : Valuation) (t : Lin) → has_unknown t ≡ false → value v t ≡ t.constant

@@ -178,7 +178,7 @@ first_and_rest (a ∷ ts) h =
     ap (λ us. a ∷ us) (sym (take-length ts) ∙ ap (λ n. take n ts) (sym e))
 
 -- ---- where one list is at its end
-add_terms-nil : (ts : Terms) → is_ascending ts ≡ true → add_terms ts [] ≡ ts
+pub add_terms-nil : (ts : Terms) → is_ascending ts ≡ true → add_terms ts [] ≡ ts
 add_terms-nil [] h = refl
 add_terms-nil (a ∷ ts) h =
     let parts = ascending_parts a ts h in

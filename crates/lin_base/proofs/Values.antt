@@ -7,7 +7,7 @@ use Rattle.std.proofs.lemmas.Bool.{cond_both, eqb-true, and_parts, and_from, bot
 use Rattle.std.proofs.Math.IntN.{zero-*ℤ, *ℤ-zero, *ℤ_comm}
 use Rattle.lin_base.specs.declared.sums.Lin.{Lin}
 use Rattle.lin_base.specs.Whole.{is_zero}
-use Rattle.lin_base.specs.Sum.{Terms, Valuation, value, value_of_terms, coef, coef_in, without, number, with_term, add_term, add_terms, scale_terms, add, scale, negated, add_number, each_unknown, assigned, occurs}
+use Rattle.lin_base.specs.Sum.{Terms, Valuation, value, value_of_terms, coef, coef_in, without, number, with_term, add_term, add_terms, scale_terms, add, scale, negated, add_number, above, each_unknown, assigned, occurs}
 use Rattle.lin_base.specs.Change.{replace_in}
 use Rattle.lin_base.specs.Combine.{add_scaled}
 use Rattle.lin_base.proofs.Ring.{mul-add, add-mul, mul_assoc, is_zero_out, one_mul, neg-mul, replaced_value}
@@ -54,6 +54,9 @@ module _ (v : Valuation) where
 
   pub value-add_number : (t : Lin) (c : ℤ) → value v (add_number t c) ≡ value v t +ℤ c
   value-add_number t c = omega (arith, ints, value-add t (number c), value-number c)
+
+  pub value-above : (t : Lin) → value v (above t) ≡ neg_ℤ (value v t) +ℤ pos 1
+  value-above t = value-add_number (negated t) (pos 1) ∙ ap (λ z. z +ℤ pos 1) (value-negated t)
 
   split_cons : (x y : ℕ) (k : ℤ) (ts : Terms) (b : Bool) → (y == x) ≡ b → value_of_terms v ts ≡ coef_in x ts *ℤ v x +ℤ value_of_terms v (filter (λ e. not (e.0 == x)) ts) → k *ℤ v y +ℤ value_of_terms v ts ≡ (if b then k +ℤ coef_in x ts else coef_in x ts) *ℤ v x +ℤ value_of_terms v (cond (not b) ((y, k) ∷ filter (λ e. not (e.0 == x)) ts) (filter (λ e. not (e.0 == x)) ts))
   split_cons x y k ts true e h = omega (arith, ints, h, add-mul k (coef_in x ts) (v x), ap (λ z. k *ℤ v z) (eqb-true y x e))

@@ -1,5 +1,5 @@
 -- Well-formed sums and facts: what is formed of them is well formed.
-use Rattle.std.specs.Prelude.{◌≡◌, ℕ, ℤ, pos, ◌+ℤ◌, ◌*ℤ◌, ◌≤ℤ◌, int_le, int_div, map, Bool, true, false, not, ◌==◌, nat_lt, [], ◌∷◌, if◌then◌else◌}
+use Rattle.std.specs.Prelude.{◌≡◌, ℕ, ℤ, pos, negsuc, ◌+ℤ◌, ◌*ℤ◌, ◌≤ℤ◌, int_le, int_div, map, Bool, true, false, not, ◌==◌, nat_lt, [], ◌∷◌, if◌then◌else◌}
 use Rattle.std.specs.List.{filter, AllByRecursion}
 use Rattle.std.proofs.Common.{refl, sym, ◌∙◌, ap, arith}
 use Rattle.std.proofs.lemmas.Bool.{cond_both, and_parts, and_from, eqb-true, true≢false}
@@ -10,7 +10,7 @@ use Rattle.lin_base.specs.declared.sums.Lin.{Lin}
 use Rattle.lin_base.specs.declared.facts.Fact.{Fact}
 use Rattle.lin_base.specs.declared.facts.Fact.TheVariants.{AtMostZero, Zero, Divides, NotDivides}
 use Rattle.lin_base.specs.Whole.{is_zero, divides}
-use Rattle.lin_base.specs.Sum.{Terms, is_reduced, with_term, add_term, add_terms, scale_terms, add, scale, number, add_number, without, coef, occurs}
+use Rattle.lin_base.specs.Sum.{Terms, is_reduced, with_term, add_term, add_terms, scale_terms, add, scale, number, negated, add_number, above, without, coef, occurs}
 use Rattle.lin_base.specs.Combine.{add_scaled}
 use Rattle.lin_base.specs.Fact.{sum_of, is_ascending, is_lin, is_fact}
 use Rattle.lin_base.specs.Change.{replace_in, replaced, replace, common_divisor, tight_by, tight}
@@ -100,6 +100,9 @@ is_lin-add_scaled so_far k t h g = is_lin-add so_far (scale k t) h (is_lin-scale
 
 pub is_lin-add_number : (t : Lin) (c : ℤ) → is_lin t ≡ true → is_lin (add_number t c) ≡ true
 is_lin-add_number t c h = is_lin-add t (number c) h refl
+
+pub is_lin-above : (t : Lin) → is_lin t ≡ true → is_lin (above t) ≡ true
+is_lin-above t h = is_lin-add_number (negated t) (pos 1) (is_lin-scale (negsuc 0) t h)
 
 -- ---- a sum without a term
 below-filter : (p : ℕ × ℤ → Bool) (x : ℕ) (ts : Terms) → is_below x ts ≡ true → is_below x (filter p ts) ≡ true

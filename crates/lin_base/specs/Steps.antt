@@ -1,5 +1,5 @@
 -- The order of computing: which sums and products are formed, in which order. A step is a `Wide`: an operation and its operands, whether its result leaves the range or not. An operation on sums has its value in whole numbers (Sum, Change, Combine) and beside it the list of its steps, joined by `++` in the order of forming. The left operand of a product is the multiplier, that of a sum the number that was formed first.
-use Rattle.std.specs.Prelude.{◌≡◌, ⊤, ℕ, ℤ, pos, negsuc, ◌+ℤ◌, ◌*ℤ◌, ◌==◌, Bool, not, is_none, List, [], ◌∷◌, ◌++◌, Option, Some, None, Result, Ok, Err, IfOk, IfErr, if◌then◌else◌}
+use Rattle.std.specs.Prelude.{◌≡◌, ◌≢◌, ⊤, ℕ, ℤ, pos, negsuc, ◌+ℤ◌, ◌*ℤ◌, ◌==◌, Bool, not, is_none, List, [], ◌∷◌, ◌++◌, Option, Some, None, Result, Ok, Err, IfOk, IfErr, if◌then◌else◌}
 use Rattle.std.specs.List.{find}
 use Rattle.lin_base.specs.declared.sums.Lin.{Lin}
 use Rattle.lin_base.specs.declared.facts.Fact.{Fact}
@@ -10,7 +10,7 @@ use Rattle.lin_base.specs.declared.wides.Wide.{Wide}
 use Rattle.lin_base.specs.declared.wides.ArithmeticError.{ArithmeticError}
 use Rattle.lin_base.specs.declared.wides.ArithmeticError.TheVariants.{Memory, Wide as TooWide}
 use Rattle.lin_base.specs.Whole.{is_in_range, gcd, div_floor}
-use Rattle.lin_base.specs.Sum.{Terms, Valuation, coef, occurs, without, scale, number}
+use Rattle.lin_base.specs.Sum.{Terms, Valuation, coef, occurs, without, scale, negated, number}
 use Rattle.lin_base.specs.Fact.{sum_of}
 
 -- the step l + r
@@ -56,6 +56,10 @@ IsErrorAt (TooWide w) first = first ≡ Some w
 abbrev pub Forms : {A : Type 0} → Result A ArithmeticError → List Wide → A → Type 0
 Forms r steps a = IfOk r (λ v. (first_wide steps ≡ None) × (v ≡ a)) × IfErr r (λ e. IsErrorAt e (first_wide steps))
 
+-- the answer isn't want of memory
+abbrev pub WantsNoMemory : {A : Type 0} → Result A ArithmeticError → Type 0
+WantsNoMemory r = IfErr r (λ e. e ≢ Memory)
+
 -- ---- the orders
 -- k is added to the coefficient at x, where there is one
 abbrev pub add_term_steps : ℕ → ℤ → Terms → List Wide
@@ -87,6 +91,10 @@ negated_steps t = scale_steps (negsuc 0) t
 -- adding a number to a sum
 abbrev pub add_number_steps : Lin → ℤ → List Wide
 add_number_steps t c = add_steps t (number c)
+
+-- the product with -1, then the sum with 1
+abbrev pub above_steps : Lin → List Wide
+above_steps t = negated_steps t ++ add_number_steps (negated t) (pos 1)
 
 -- b times t, then a times u, then their sum
 abbrev pub replace_in_steps : ℕ → ℤ → Lin → Lin → List Wide

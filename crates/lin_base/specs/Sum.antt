@@ -93,6 +93,10 @@ negated t = scale (negsuc 0) t
 abbrev pub add_number : Lin → ℤ → Lin
 add_number t c = add t (number c)
 
+-- -1 times a sum, and 1
+abbrev pub above : Lin → Lin
+above t = add_number (negated t) (pos 1)
+
 -- the sum without its term at x
 abbrev pub without : ℕ → Lin → Lin
 without x t = record { coefs = filter (λ e. not (e.0 == x)) t.coefs; constant = t.constant }

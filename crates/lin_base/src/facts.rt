@@ -1,9 +1,9 @@
 //! Facts about sums, and pools of clauses of facts.
 
-ghost use Rattle.std.specs.Prelude.{◌≡◌, ◌↔◌, false, IsTrue, IfOk};
+ghost use Rattle.std.specs.Prelude.{◌≡◌, ◌↔◌, false, IsTrue, IfOk, IsOk};
 ghost use Rattle.std.specs.List.{list_all};
 ghost use Rattle.lin_base.specs.Fact as spec;
-ghost use Rattle.lin_base.specs.Sum.{Valuation};
+ghost use Rattle.lin_base.specs.Sum.{Valuation, has_unknown};
 ghost use Rattle.lin_base.specs.Whole.{divides};
 
 use crate::sums::{Lin, has_unknown, is_lin, same_lin};
@@ -33,9 +33,10 @@ pub struct Pool {
 }
 
 impl Fact {
-    /// The same fact.
+    /// The same fact. It takes memory only where an unknown occurs.
     pub fn copy(&self, alloc: Global) -> Result<Fact, AllocError>
-        ensures { IfOk result (λ f. f ≡ self.now) }
+        ensures value { IfOk result (λ f. f ≡ self.now) }
+        ensures memory { has_unknown (spec.sum_of self.now) ≡ false → IsOk result }
     {
         match self {
             Fact::AtMostZero(t) => Ok(Fact::AtMostZero(t.copy(alloc)?)),

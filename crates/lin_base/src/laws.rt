@@ -1,7 +1,7 @@
 //! Laws of sums, facts and numbers. Each is a function that does nothing, whose contract is the law; a
 //! valuation gives each unknown a whole number, and whole numbers have no limit.
 
-ghost use Rattle.std.specs.Prelude.{◌≡◌, ℕ, ℤ, pos, ◌+ℤ◌, ◌*ℤ◌, ◌≤ℤ◌, ◌<ℤ◌, neg_ℤ, Bool, false, IsTrue, List, ◌∷◌, ◌++◌, None};
+ghost use Rattle.std.specs.Prelude.{◌≡◌, ◌≢◌, ℕ, ℤ, pos, not, ◌==◌, ◌&&◌, ◌+ℤ◌, ◌*ℤ◌, ◌≤ℤ◌, ◌<ℤ◌, neg_ℤ, Bool, false, IsTrue, List, ◌∷◌, ◌++◌, None};
 ghost use Rattle.std.specs.List.{list_all, AllByRecursion};
 ghost use Rattle.std.specs.Option.{option_or};
 ghost use Rattle.lin_base.specs.declared.sums.Lin.{Lin};
@@ -9,7 +9,7 @@ ghost use Rattle.lin_base.specs.declared.facts.Fact.{Fact};
 ghost use Rattle.lin_base.specs.declared.wides.Wide.{Wide};
 ghost use Rattle.lin_base.specs.declared.wides.ArithmeticError.{ArithmeticError};
 ghost use Rattle.lin_base.specs.Whole.{divides, div_ceil, lcm};
-ghost use Rattle.lin_base.specs.Sum.{Valuation, value, assigned, coef, occurs, each_unknown, without, number, add, scale, negated, add_number};
+ghost use Rattle.lin_base.specs.Sum.{Valuation, value, assigned, coef, occurs, each_unknown, without, number, add, scale, negated, add_number, above};
 ghost use Rattle.lin_base.specs.Steps.{first_wide, IsErrorAt};
 ghost use Rattle.lin_base.specs.Combine.{add_scaled, add_scaled_steps, combined, combined_onto_steps, total, IsSmall};
 ghost use Rattle.lin_base.specs.Fact.{sum_of, holds, is_lin, is_fact};
@@ -20,6 +20,24 @@ pub fn coefficients()
     ensures sum { (x : ℕ) (t u : Lin) → coef x (add t u) ≡ coef x t +ℤ coef x u }
     ensures multiple { (x : ℕ) (k : ℤ) (t : Lin) → coef x (scale k t) ≡ k *ℤ coef x t }
     ensures absent { (x : ℕ) (t : Lin) → occurs x t ≡ false → coef x t ≡ pos 0 }
+{}
+
+/// Which unknowns occur in what is formed of sums. In a well-formed sum the coefficient of what occurs isn't 0.
+pub fn occurrences()
+    ensures sum { (x : ℕ) (t u : Lin) → occurs x t ≡ false → occurs x u ≡ false → occurs x (add t u) ≡ false }
+    ensures multiple { (x : ℕ) (k : ℤ) (t : Lin) → occurs x t ≡ false → occurs x (scale k t) ≡ false }
+    ensures negated { (x : ℕ) (t : Lin) → IsTrue (is_lin t) → occurs x (negated t) ≡ occurs x t }
+    ensures number_added { (x : ℕ) (t : Lin) (c : ℤ) → IsTrue (is_lin t) → occurs x (add_number t c) ≡ occurs x t }
+    ensures above { (x : ℕ) (t : Lin) → IsTrue (is_lin t) → occurs x (above t) ≡ occurs x t }
+    ensures rest { (x y : ℕ) (t : Lin) → occurs y (without x t) ≡ (not (y == x) && occurs y t) }
+    ensures coefficient { (x : ℕ) (t : Lin) → IsTrue (is_lin t) → IsTrue (occurs x t) → coef x t ≢ pos 0 }
+{}
+
+/// The sum without a term: the sum itself where the unknown doesn't occur, and of a multiple the multiple.
+pub fn rests()
+    ensures absent { (x : ℕ) (t : Lin) → occurs x t ≡ false → without x t ≡ t }
+    ensures multiple { (x : ℕ) (k : ℤ) (t : Lin) → without x (scale k t) ≡ scale k (without x t) }
+    ensures negated { (x : ℕ) (t : Lin) → without x (negated t) ≡ negated (without x t) }
 {}
 
 /// The value of a sum of sums is the sum of the values.
@@ -40,6 +58,11 @@ pub fn value_of_negate()
 /// The value of `t + c`.
 pub fn value_of_add_number()
     ensures { (v : Valuation) (t : Lin) (c : ℤ) → value v (add_number t c) ≡ value v t +ℤ c }
+{}
+
+/// The value of `-t + 1`.
+pub fn value_of_above()
+    ensures { (v : Valuation) (t : Lin) → value v (above t) ≡ neg_ℤ (value v t) +ℤ pos 1 }
 {}
 
 /// The value of a number, which has no unknown.
@@ -124,6 +147,8 @@ pub fn well_formed_sums()
     ensures sum { (t u : Lin) → IsTrue (is_lin t) → IsTrue (is_lin u) → IsTrue (is_lin (add t u)) }
     ensures multiple { (k : ℤ) (t : Lin) → IsTrue (is_lin t) → IsTrue (is_lin (scale k t)) }
     ensures rest { (x : ℕ) (t : Lin) → IsTrue (is_lin t) → IsTrue (is_lin (without x t)) }
+    ensures number_added { (t : Lin) (c : ℤ) → IsTrue (is_lin t) → IsTrue (is_lin (add_number t c)) }
+    ensures above { (t : Lin) → IsTrue (is_lin t) → IsTrue (is_lin (above t)) }
 {}
 
 /// What is made of well-formed facts is well formed.

@@ -12,7 +12,7 @@ mod sums;
 mod tests;
 mod wides;
 
-pub use changes::{add, add_number, add_scaled, negate, scale};
+pub use changes::{above, add, add_number, add_scaled, negate, scale};
 pub use checked::{checked_add, checked_mul};
 pub use facts::{Fact, Pool, copy_facts, divides, holds_at, is_fact, is_false, is_pool, same_fact};
 pub use numbers::{div_ceil, gcd, lcm};

@@ -1,6 +1,6 @@
 //! Linear sums, and what can be asked of them.
 
-ghost use Rattle.std.specs.Prelude.{◌≡◌, ◌↔◌, [], IsTrue, IfOk};
+ghost use Rattle.std.specs.Prelude.{◌≡◌, ◌↔◌, false, [], IsTrue, IfOk, IsOk};
 ghost use Rattle.lin_base.specs.Fact.{is_ascending, is_lin};
 ghost use Rattle.lin_base.specs.Sum as spec;
 
@@ -17,15 +17,26 @@ pub struct Lin {
 }
 
 impl Lin {
-    /// The same sum.
+    /// The same sum. It takes memory only where an unknown occurs.
     pub fn copy(&self, alloc: Global) -> Result<Lin, AllocError>
-        ensures { IfOk result (λ t. t ≡ self.now) }
+        ensures value { IfOk result (λ t. t ≡ self.now) }
+        ensures memory { spec.has_unknown self.now ≡ false → IsOk result }
     {
         Ok(Lin {
-            coefs: Items::from_slice(alloc, self.coefs.as_slice())?,
+            coefs: copy_terms(alloc, self.coefs.as_slice())?,
             constant: self.constant,
         })
     }
+}
+
+/// The same terms.
+fn copy_terms(alloc: Global, terms: &[(u32, i128)]) -> Result<Items<(u32, i128)>, AllocError>
+    ensures value { IfOk result (λ ts. ts ≡ terms.now) }
+    ensures memory { terms.now ≡ [] → IsOk result }
+{
+    let mut copies = Vec::with_capacity(alloc, terms.len())?;
+    copies.extend_from_slice(terms)?;
+    Ok(Items::from_vec(copies))
 }
 
 /// The sum that is `c`, without unknown.
@@ -115,12 +126,13 @@ pub fn coef(x: u32, t: &Lin) -> i128
     0
 }
 
-/// The sum without its term at the unknown `x`.
+/// The sum without its term at the unknown `x`. It takes memory only where another unknown occurs.
 pub fn without(alloc: Global, x: u32, t: &Lin) -> Result<Lin, AllocError>
     ensures value { IfOk result (λ r. r ≡ spec.without x t.now) }
+    ensures memory { spec.has_unknown (spec.without x t.now) ≡ false → IsOk result }
     ensures well_formed { IsTrue (is_lin t.now) → IfOk result (λ r. IsTrue (is_lin r)) }
 {
-    let mut coefs = Vec::with_capacity(alloc, t.coefs.len())?;
+    let mut coefs = Vec::new(alloc);
     for term in t.coefs.as_slice() {
         if term.0 != x {
             coefs.push(*term)?;

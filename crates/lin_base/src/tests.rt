@@ -74,13 +74,140 @@ fn tight_facts(rt: HostRuntime) -> Result<(), Fail> {
     Ok(())
 }
 
+fn wide_of<T: Drop>(answer: Result<T, ArithmeticError>) -> Option<Wide> {
+    match answer {
+        Err(ArithmeticError::Wide(wide)) => Some(wide),
+        Ok(_) | Err(ArithmeticError::Memory) => None,
+    }
+}
+
+const HALF: i128 = 1 << 126;
+
+// k times `coef * u0 + constant`
 #[test]
-fn sum_of_constants(rt: HostRuntime) {
+fn multiples_past_the_range(rt: HostRuntime) -> Result<(), Fail> {
+    let alloc = rt.alloc();
+    for (k, coef, constant, want) in [
+        (-1, i128::MIN, 0, wide(Op::Mul, -1, i128::MIN)),
+        (-1, 1, i128::MIN, wide(Op::Mul, -1, i128::MIN)),
+        (2, HALF, i128::MIN, wide(Op::Mul, 2, HALF)),
+        (2, -HALF, HALF, wide(Op::Mul, 2, HALF)),
+        (i128::MIN, 1, -1, wide(Op::Mul, i128::MIN, -1)),
+    ] {
+        let t = sum(alloc, &[(0, coef)], constant)?;
+        assert!(rt; wide_of(scale(alloc, k, &t)) == Some(want));
+    }
+    Ok(())
+}
+
+// -c, and -c + 1
+#[test]
+fn negations_past_the_range(rt: HostRuntime) {
+    let alloc = rt.alloc();
+    let least = number(alloc, i128::MIN);
+    let next = number(alloc, -i128::MAX);
+    let product = Some(wide(Op::Mul, -1, i128::MIN));
+    assert!(rt;
+        wide_of(negate(alloc, &least)) == product && wide_of(above(alloc, &least)) == product
+    );
+    let sum = Some(wide(Op::Add, i128::MAX, 1));
+    assert!(rt; wide_of(negate(alloc, &next)) == None && wide_of(above(alloc, &next)) == sum);
+}
+
+// two sums `coef * u0 + constant`
+#[test]
+fn sums_of_sums_past_the_range(rt: HostRuntime) -> Result<(), Fail> {
+    let alloc = rt.alloc();
+    for (coef, constant, other, added, want) in [
+        (i128::MAX, 0, 1, 0, wide(Op::Add, i128::MAX, 1)),
+        (i128::MIN, i128::MAX, -1, 1, wide(Op::Add, i128::MIN, -1)),
+        (HALF, i128::MAX, HALF - 1, 1, wide(Op::Add, i128::MAX, 1)),
+        (
+            i128::MIN,
+            -HALF,
+            i128::MAX,
+            -HALF - 1,
+            wide(Op::Add, -HALF, -HALF - 1),
+        ),
+    ] {
+        let t = sum(alloc, &[(0, coef)], constant)?;
+        let u = sum(alloc, &[(0, other)], added)?;
+        assert!(rt; is_lin(&t) && is_lin(&u) && wide_of(add(alloc, &t, &u)) == Some(want));
+    }
+    Ok(())
+}
+
+// the coefficients' sums meet in the middle
+#[test]
+fn sums_within_the_range(rt: HostRuntime) -> Result<(), Fail> {
+    let alloc = rt.alloc();
+    for (left, right, want) in [
+        (i128::MIN, i128::MAX, -1),
+        (HALF, HALF - 1, i128::MAX),
+        (-HALF, -HALF, i128::MIN),
+        (i128::MIN + 1, i128::MAX, 0),
+    ] {
+        let t = sum(alloc, &[(0, left)], 0)?;
+        let u = sum(alloc, &[(0, right)], 0)?;
+        assert!(rt; is_lin(&t) && is_lin(&u));
+        let middle = add(alloc, &t, &u)?;
+        assert!(rt;
+            is_lin(&middle) && coef(0, &middle) == want && has_unknown(&middle) == (want != 0)
+        );
+    }
+    Ok(())
+}
+
+// the constants' sum, and a combination: the product before the sum
+#[test]
+fn combinations_past_the_range(rt: HostRuntime) {
     let alloc = rt.alloc();
     let greatest = number(alloc, i128::MAX);
     let one = number(alloc, 1);
-    let answer = add(alloc, &greatest, &one).map(|_| ());
-    assert!(rt; answer == Err(ArithmeticError::Wide(wide(Op::Add, i128::MAX, 1))));
+    let past = Some(wide(Op::Add, i128::MAX, 1));
+    assert!(rt; wide_of(add_number(alloc, &greatest, 1)) == past);
+    assert!(rt; wide_of(add_scaled(alloc, &greatest, 1, &one)) == past);
+    let product = Some(wide(Op::Mul, 2, i128::MAX));
+    assert!(rt; wide_of(add_scaled(alloc, &greatest, 2, &greatest)) == product);
+}
+
+// t in place of a * u1 in `m divides b * u1 + c`
+fn wide_of_replacing(alloc: Global, m: i128, b: i128, c: i128, a: i128, t: i128) -> Option<Wide> {
+    let Ok(sum) = sum(alloc, &[(1, b)], c) else {
+        return None;
+    };
+    let fact = Fact::Divides(m, sum);
+    if a < 1 || !is_fact(&fact) {
+        return None;
+    }
+    wide_of(replace(alloc, &fact, 1, a, &number(alloc, t)))
+}
+
+#[test]
+fn replacements_past_the_range(rt: HostRuntime) {
+    for (m, b, c, a, t, want) in [
+        (
+            HALF,
+            i128::MAX,
+            HALF,
+            2,
+            2,
+            Some(wide(Op::Mul, i128::MAX, 2)),
+        ),
+        (HALF, 1, HALF, 2, 2, Some(wide(Op::Mul, 2, HALF))),
+        (
+            HALF,
+            1,
+            HALF - 1,
+            2,
+            2,
+            Some(wide(Op::Add, 2, i128::MAX - 1)),
+        ),
+        (HALF, 1, HALF - 1, 2, 1, Some(wide(Op::Mul, 2, HALF))),
+        (HALF - 1, 1, HALF - 1, 2, 1, None),
+    ] {
+        assert!(rt; wide_of_replacing(rt.alloc(), m, b, c, a, t) == want);
+    }
 }
 
 #[test]

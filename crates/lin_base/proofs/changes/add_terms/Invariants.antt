@@ -1,4 +1,4 @@
-use Rattle.std.proofs.Common.{◌≡◌, ◌+◌, ◌++◌, length, IsTrue}
+use Rattle.std.proofs.Common.{◌≡◌, ◌≤◌, ◌+◌, ◌++◌, length, vec_len, vec_capacity, IsTrue}
 use Rattle.lin_base.specs.Fact.{is_ascending}
 use Rattle.lin_base.specs.Sum.{add_terms}
 use Rattle.lin_base.specs.Steps.{first_wide, add_terms_steps}
@@ -11,6 +11,7 @@ invariant-loop-left l = record {
   right : IsTrue (is_ascending l.right);
   steps : first_wide (add_terms_steps l.fn.left l.fn.right) ≡ first_wide (add_terms_steps l.left l.right);
   sum : add_terms l.fn.left l.fn.right ≡ l.sum.items ++ add_terms l.left l.right;
+  room : vec_len l.sum + (length l.left + length l.right) ≤ vec_capacity l.sum;
 }
 
 abbrev pub decreases-loop-left : goal.decreases-loop-left

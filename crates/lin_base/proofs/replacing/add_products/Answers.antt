@@ -1,14 +1,15 @@
-use Rattle.std.proofs.Common.{◌≡◌, ◌∙◌, ap, subst, ◌++◌, arith, Err, None, ℤ}
+use Rattle.std.proofs.Common.{◌≡◌, ◌∙◌, ap, subst, ◌++◌, arith, Err, None, ℤ, false}
 use Rattle.std.proofs.lemmas.Int.{to_z-of_z}
 use Rattle.std.proofs.lemmas.Grind.{common_steps}
 use Rattle.lin_base.specs.declared.sums.Lin.{Lin}
-use Rattle.lin_base.specs.Sum.{scale, add}
+use Rattle.lin_base.specs.Sum.{scale, add, has_unknown}
 use Rattle.lin_base.specs.Steps.{scale_steps, add_steps, first_wide, IsErrorAt, Forms}
 use Rattle.lin_base.proofs.Forming.{Forms-err, Forms-after, IsErrorAt-append_some, IsErrorAt-append_none, first_wide-append_none}
+use Rattle.lin_base.proofs.Lookup.{has_unknown-scale}
 use Rattle.lin_base.proofs.replacing.add_products.Goals as goal
 
-pub returns-in_err-left : goal.returns-in_err-left
-returns-in_err-left c =
+pub returns-in_err-left-clause-sum : goal.returns-in_err-left-clause-sum
+returns-in_err-left-clause-sum c =
     let left = scale_steps c.args.b c.args.t.now in
     let right = scale_steps c.args.a c.args.u.now in
     let last = add_steps (scale c.args.b c.args.t.now) (scale c.args.a c.args.u.now) in
@@ -18,8 +19,8 @@ returns-in_err-left c =
     let is : c.from_residual.result ≡ Err e = grind (arith, common_steps) in
     Forms-err _ e (left ++ right ++ last) (add (scale c.args.b c.args.t.now) (scale c.args.a c.args.u.now)) is (IsErrorAt-append_some e (left ++ right) last (IsErrorAt-append_some e left right at))
 
-pub returns-in_err-right : goal.returns-in_err-right
-returns-in_err-right c =
+pub returns-in_err-right-clause-sum : goal.returns-in_err-right-clause-sum
+returns-in_err-right-clause-sum c =
     let left = scale_steps c.args.b c.args.t.now in
     let right = scale_steps c.args.a c.args.u.now in
     let last = add_steps (scale c.args.b c.args.t.now) (scale c.args.a c.args.u.now) in
@@ -31,8 +32,8 @@ returns-in_err-right c =
     let is : c.from_residual-in_err-right.result ≡ Err e = grind (arith, common_steps) in
     Forms-err _ e (left ++ right ++ last) (add (scale c.args.b c.args.t.now) (scale c.args.a c.args.u.now)) is (IsErrorAt-append_some e (left ++ right) last (IsErrorAt-append_none e left right narrow at))
 
-pub returns : goal.returns
-returns c =
+pub returns-clause-sum : goal.returns-clause-sum
+returns-clause-sum c =
     let t = c.args.t.now in
     let u = c.args.u.now in
     let left = scale_steps c.args.b t in
@@ -49,3 +50,9 @@ returns c =
     let T : Lin → Type 0 = λ r. Forms c.add.result (add_steps (scale c.args.b t) r) (add (scale c.args.b t) r) in
     let sum = subst T is_right (subst S is c.add.ensures.sum) in
     Forms-after c.add.result (left ++ right) _ _ (first_wide-append_none left right narrow ∙ narrow_right) sum
+
+pub returns-clause-memory : goal.returns-clause-memory
+returns-clause-memory c = λ h g.
+    let left : has_unknown c.in_ok-left.left ≡ false = ap has_unknown c.in_ok-left.ensures.product.0.1 ∙ has_unknown-scale _ c.args.t.now h in
+    let right : has_unknown c.in_ok-right.right ≡ false = ap has_unknown c.in_ok-right.ensures.product.0.1 ∙ has_unknown-scale _ c.args.u.now g in
+    c.add.ensures.memory left right
