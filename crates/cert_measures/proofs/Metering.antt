@@ -1,11 +1,11 @@
 -- Numbers noted one list after the other.
-use Rattle.std.specs.Prelude.{◌≡◌, ⊤, IfOk, IfErr, Result, Ok, Err, drop, length, get_or, ◌-◌, ℕ, zero, suc, max, ◌+◌, ◌<◌, ◌≤◌, ◌^◌, nat_lt, ℤ, pos, negsuc, ◌*ℤ◌, Bool, true, false, not, cond, ◌&&◌, unsigned_abs, List, [], ◌∷◌, ◌++◌, map, Option, Some, None}
+use Rattle.std.specs.Prelude.{◌≡◌, ⊤, IfOk, IfErr, Result, Ok, Err, drop, length, get_or, ◌-◌, ℕ, zero, suc, max, ◌+◌, ◌<◌, ◌≤◌, ◌^◌, nat_lt, ℤ, pos, negsuc, ◌*ℤ◌, Bool, true, false, not, cond, ◌&&◌, unsigned_abs, is_none, if◌then◌else◌, List, [], ◌∷◌, ◌++◌, map, Option, Some, None}
 use Rattle.std.specs.List.{list_all, flat_map}
 use Rattle.std.proofs.Common.{refl, sym, ◌∙◌, ap, subst, arith}
 use Rattle.std.proofs.lemmas.Int.{ints, to_z-of_z}
 use Rattle.std.proofs.lemmas.List.{map-append}
 use Rattle.std.proofs.lemmas.List.Folds.{list_all-append}
-use Rattle.std.proofs.lemmas.Bool.{cond_both}
+use Rattle.std.proofs.lemmas.Bool.{cond_both, true≢false}
 use Rattle.std.proofs.lemmas.List.{at_drop_more, at_drop_all}
 use Rattle.std.proofs.lemmas.Grind.{common_steps}
 use Rattle.lin_base.specs.declared.sums.Lin.{Lin}
@@ -17,6 +17,7 @@ use Rattle.lin_base.specs.Steps.{result_of, first_wide, scale_steps, scale_terms
 use Rattle.lin_base.proofs.Forming.{forming}
 use Rattle.lin_base.proofs.Ring.{is_zero_out}
 use Rattle.cert_tree.specs.Counting.{count_from}
+use Rattle.cert_tree.specs.Narrow.{if_narrow}
 use Rattle.cert_tree.proofs.Completion.{count_at}
 use Rattle.cert_measures.specs.declared.meter.Meter.{Meter}
 use Rattle.cert_measures.specs.declared.meter.MeasureError.{MeasureError}
@@ -74,6 +75,18 @@ pub metered_then : {A : Type 0} (r : Result A MeasureError) (m0 m1 m2 : Meter) (
 metered_then (Ok v) m0 m1 m2 n k zs ys P a h = ((after_after m2 m1 m0 n k zs ys a h.0.0, h.0.1), tt)
 metered_then (Err e) m0 m1 m2 n k zs ys P a h = (tt, cause_then e m1 m0 n k zs ys a h.1)
 
+-- only rows and nodes were counted: an error there, and what was formed before
+pub cause_taken : (e : MeasureError) (m1 m0 : Meter) (k : ℕ) (zs ys : List ℤ) → IsAfter m1 m0 0 zs → IsCause e m1.room k [] → IsCause e m0.room k ys
+cause_taken Memory m1 m0 k zs ys a h = tt
+cause_taken OutOfRange m1 m0 k zs ys a h = absurd (true≢false h)
+cause_taken Spent m1 m0 k zs ys a h = omega (arith, a.0, h)
+
+pub after_taken : (m2 m1 m0 : Meter) (k : ℕ) (zs : List ℤ) → IsAfter m1 m0 0 zs → IsAfter m2 m1 k [] → IsAfter m2 m0 k zs
+after_taken m2 m1 m0 k zs a t = (omega (arith, a.0, t.0), t.1 ∙ max_zero m1.greatest ∙ a.1)
+
+pub after_start : (m : Meter) → IsAfter m m 0 []
+after_start m = (omega arith, sym (max_zero m.greatest))
+
 pub metered_as : {A : Type 0} (r : Result A MeasureError) (m0 m1 : Meter) (n k : ℕ) (zs ys : List ℤ) (P : A → Type 0) → n ≡ k → zs ≡ ys → Metered r m0 m1 k ys P → Metered r m0 m1 n zs P
 metered_as r m0 m1 n k zs ys P count is h = rw (count, is) h
 
@@ -112,6 +125,9 @@ pub flat_count : {B : Type 0} (f : ℕ → List B) (n j : ℕ) → j < n → fla
 flat_count f n j h = ap (flat_map f) (count_at n j h)
 
 -- ---- steps and the numbers that they form
+some_none : {A : Type 0} (a : A) → Some a ≡ None → ⊥
+some_none a h = absurd (cc)
+
 wide_cons : (b : Bool) (s : Wide) (rest : Option Wide) (w : Wide) (others : Bool) → cond (not b) (Some s) rest ≡ Some w → (rest ≡ Some w → others ≡ false) → (b && others) ≡ false
 wide_cons true s rest w others h k = k h
 wide_cons false s rest w others h k = refl
@@ -120,6 +136,14 @@ wide_cons false s rest w others h k = refl
 pub wide_is_out : (ss : List Wide) (w : Wide) → first_wide ss ≡ Some w → fit (results ss) ≡ false
 wide_is_out [] w h = absurd (cc)
 wide_is_out (s ∷ ss) w h = wide_cons (is_in_range (result_of s)) s (first_wide ss) w (fit (results ss)) h (wide_is_out ss w)
+
+-- a value that isn't there because a step leaves the range
+pub none_is_out : {A : Type 0} (o : Option A) (a : A) (ss : List Wide) → o ≡ if_narrow ss a → o ≡ None → fit (results ss) ≡ false
+none_is_out o a ss is none = by_first (first_wide ss) refl
+  where
+    by_first : (first : Option Wide) → first_wide ss ≡ first → fit (results ss) ≡ false
+    by_first (Some w) h = wide_is_out ss w h
+    by_first None h = absurd (some_none a (sym (ap (λ f. if is_none f then Some a else None) h) ∙ sym is ∙ none))
 
 -- ---- a multiple has the numbers that its products are
 without_zero : (z : ℤ) (n : ℕ) → is_zero z ≡ true → max (unsigned_abs z) n ≡ n

@@ -4,11 +4,11 @@ ghost use Rattle.std.specs.Prelude.{◌≡◌, ◌≤ℤ◌, ⊤, length, option
 ghost use Rattle.std.specs.List.{list_all, flat_map};
 ghost use Rattle.lin_base.specs.Fact.{is_fact, is_lin};
 ghost use Rattle.lin_base.specs.Numbers.{results};
-ghost use Rattle.lin_base.specs.Steps.{add_number_steps, replace_all_steps};
+ghost use Rattle.lin_base.specs.Steps.{add_number_steps, replace_all_steps, above_steps};
 ghost use Rattle.lin_base.specs.Sum as sum;
 ghost use Rattle.cert_tree.specs.Above.{above_bound};
 ghost use Rattle.cert_tree.specs.Bounds.{is_side, moved_by};
-ghost use Rattle.cert_tree.specs.Children.{above, above_steps};
+ghost use Rattle.lin_base.specs.Sum.{above};
 ghost use Rattle.cert_tree.specs.Complete as spec;
 ghost use Rattle.cert_tree.specs.Sides.{side_of};
 ghost use Rattle.cert_tree.specs.Counting.{count_from};
@@ -20,9 +20,9 @@ use crate::meter::{MeasureError, Meter, take};
 use crate::replacing::note_all;
 use crate::sides::{note_positive, period};
 use cert_tree::rows::{has_upper_bound, stays_in};
-use cert_tree::sums::{Side, formed_above, made_positive, parts_at};
+use cert_tree::sums::{Side, made_positive, parts_at};
 use cert_tree::test_points::{Bound, moved_up};
-use lin_base::{Fact, Lin, coef, number};
+use lin_base::{Fact, Lin, above, coef, number};
 use sqlite_items::Items;
 use std::alloc::Global;
 
@@ -95,7 +95,7 @@ fn noted_above(alloc: Global, meter: &mut Meter, t: &Lin) -> Result<Lin, Measure
 {
     let negative = multiple(alloc, meter, &-1, t)?;
     note_add(meter, &negative, &number(alloc, 1))?;
-    Ok(formed_above(alloc, t)?)
+    Ok(above(alloc, t)?)
 }
 
 /// The bound that is 1 - rest, and how many instances it has: `b*d`.

@@ -5,4 +5,5 @@ mod arithmetic;
 mod replacing;
 mod sides;
 mod completing;
+mod grounding;
 pub mod meter;

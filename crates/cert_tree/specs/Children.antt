@@ -7,10 +7,10 @@ use Rattle.lin_base.specs.declared.facts.Fact.TheVariants.{AtMostZero, Zero, Div
 use Rattle.lin_base.specs.declared.wides.Wide.{Wide}
 use Rattle.lin_base.specs.Whole.{is_zero}
 use Rattle.lin_base.specs.Fact.{is_lin}
-use Rattle.lin_base.specs.Sum.{coef, occurs, negated, add_number, number}
+use Rattle.lin_base.specs.Sum.{coef, occurs, add_number, number, above}
 use Rattle.lin_base.specs.Change.{replace, tight}
 use Rattle.lin_base.specs.Combine.{add_scaled, add_scaled_steps, combined, combined_steps}
-use Rattle.lin_base.specs.Steps.{is_narrow, multiplies, negated_steps, add_number_steps, replace_steps, replace_all_steps}
+use Rattle.lin_base.specs.Steps.{is_narrow, multiplies, above_steps, add_number_steps, replace_steps, replace_all_steps}
 use Rattle.cert_tree.specs.Counting.{numbers_below, is_over_free}
 use Rattle.cert_tree.specs.Narrow.{option_then, if_narrow}
 use Rattle.cert_tree.specs.Points.{Side, period, period_steps, solved, below, divides_part}
@@ -56,14 +56,6 @@ cut_of (AtMostZero t) = Some (tight (AtMostZero t))
 cut_of _ = None
 
 -- ---- Branch
--- the fact `-t + 1 <= 0`
-abbrev pub above : Lin → Lin
-above t = add_number (negated t) (pos 1)
-
--- the product with -1, then 1 added
-abbrev pub above_steps : Lin → List Wide
-above_steps t = negated_steps t ++ add_number_steps (negated t) (pos 1)
-
 -- both facts, where the sum is one over parameters that are not used up
 abbrev pub branch_facts : ℕ → List ℕ → Lin → Option (Fact × Fact)
 branch_facts params used t =

@@ -6,14 +6,13 @@ use Rattle.lin_base.specs.declared.facts.Fact.{Fact}
 use Rattle.lin_base.specs.declared.facts.Fact.TheVariants.{AtMostZero, Zero}
 use Rattle.lin_base.specs.declared.wides.Wide.{Wide}
 use Rattle.lin_base.specs.Whole.{is_positive, is_zero}
-use Rattle.lin_base.specs.Sum.{coef, without, add_number}
-use Rattle.lin_base.specs.Steps.{multiplies, add_number_steps, replace_all_steps}
+use Rattle.lin_base.specs.Sum.{coef, without, add_number, above}
+use Rattle.lin_base.specs.Steps.{multiplies, add_number_steps, replace_all_steps, above_steps}
 use Rattle.cert_tree.specs.declared.certs.Row.{Row}
 use Rattle.cert_tree.specs.declared.certs.Row.TheVariants.{Inst, Low}
 use Rattle.cert_tree.specs.Counting.{numbers_below}
 use Rattle.cert_tree.specs.Points.{Side, made_positive, period, period_steps}
 use Rattle.cert_tree.specs.Rows.{bounds_above, instance_at, low_at, low_steps, row_clause}
-use Rattle.cert_tree.specs.Children.{above, above_steps}
 
 -- `b*x + u` with b positive: of an AtMostZero literal, or a Zero literal made so
 abbrev pub upper : ℕ → Fact → Option Side

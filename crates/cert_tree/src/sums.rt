@@ -4,14 +4,13 @@ ghost use Rattle.std.specs.Prelude.{◌≡◌, IfErr, IfOk, IfSome, IsTrue};
 ghost use Rattle.lin_base.specs.declared.wides.ArithmeticError.TheVariants.{Memory};
 ghost use Rattle.lin_base.specs.Fact.{is_lin};
 ghost use Rattle.lin_base.specs.Sum as sum;
-ghost use Rattle.lin_base.specs.Sum.{coef};
-ghost use Rattle.lin_base.specs.Steps.{Forms};
+ghost use Rattle.lin_base.specs.Sum.{coef, above};
+ghost use Rattle.lin_base.specs.Steps.{Forms, above_steps};
 ghost use Rattle.cert_tree.specs.Narrow.{IsValueOf, if_narrow};
-ghost use Rattle.cert_tree.specs.Children.{above, above_steps};
 ghost use Rattle.cert_tree.specs.Points as points;
 ghost use Rattle.cert_tree.specs.Sides.{side_of};
 
-use lin_base::{ArithmeticError, Lin, add_number, checked_mul, coef, negate, without};
+use lin_base::{ArithmeticError, Lin, above, checked_mul, coef, negate, without};
 use std::alloc::{AllocError, Global};
 
 /// The value, or None where a number left the range. Want of memory is told where it was told.
@@ -26,17 +25,6 @@ pub fn narrow<T: Drop>(formed: Result<T, ArithmeticError>) -> Result<Option<T>, 
     }
 }
 
-/// `-t + 1`
-#[tactic(auto, using(crate::proofs::Forming::forming))]
-pub fn formed_above(alloc: Global, t: &Lin) -> Result<Lin, ArithmeticError>
-    requires { IsTrue (is_lin t.now) }
-    ensures formed { Forms result (above_steps t.now) (above t.now) }
-    ensures well_formed { IfOk result (λ u. IsTrue (is_lin u)) }
-{
-    let negative = negate(alloc, t)?;
-    add_number(alloc, &negative, 1)
-}
-
 /// `-t + 1`, or None where a number leaves the range.
 #[tactic(auto, using(crate::proofs::Forming::narrowing))]
 pub fn one_above(alloc: Global, t: &Lin) -> Result<Option<Lin>, AllocError>
@@ -44,7 +32,7 @@ pub fn one_above(alloc: Global, t: &Lin) -> Result<Option<Lin>, AllocError>
     ensures value { IfOk result (λ u. u ≡ if_narrow (above_steps t.now) (above t.now)) }
     ensures well_formed { IfOk result (λ u. IfSome u (λ sum. IsTrue (is_lin sum))) }
 {
-    narrow(formed_above(alloc, t))
+    narrow(above(alloc, t))
 }
 
 /// A sum seen from an unknown `x`: `b*x + rest`, or `b*x = rest`.
