@@ -13,7 +13,7 @@ use Rattle.lin_base.specs.declared.facts.Fact.TheVariants.{AtMostZero, Zero, Div
 use Rattle.lin_base.specs.declared.wides.Wide.{Wide}
 use Rattle.lin_base.specs.Whole.{is_zero, is_positive}
 use Rattle.lin_base.specs.Fact.{is_fact, is_lin}
-use Rattle.lin_base.specs.Sum.{coef, occurs, without, negated, add_number}
+use Rattle.lin_base.specs.Sum.{coef, occurs, without, negated, add_number, above}
 use Rattle.lin_base.proofs.Ring.{le_in, mul_positive}
 use Rattle.lin_base.proofs.WellFormed.{is_lin-without, is_lin-add_number}
 use Rattle.cert_tree.specs.declared.certs.Row.TheVariants.{Low}
@@ -24,7 +24,6 @@ use Rattle.cert_tree.specs.Narrow.{if_narrow, IsValueOf}
 use Rattle.cert_tree.specs.Sides.{side_of}
 use Rattle.cert_tree.specs.Bounds.{is_side}
 use Rattle.cert_tree.specs.Rows.{row_clause, bounds_above, low_at, low_steps}
-use Rattle.cert_tree.specs.Children.{above}
 use Rattle.cert_tree.specs.Complete.{upper, upper_steps, instance, instances, lows, complete_rows, complete, complete_steps, moved_instance, moved_steps, instances_at, instances_steps, literal_instances, literal_steps, uppers_at, uppers_steps, lows_at, lows_steps, numbered_lows, numbered_low_steps}
 use Rattle.lin_base.specs.declared.wides.ArithmeticError.{ArithmeticError}
 use Rattle.lin_base.specs.Steps.{Forms, first_wide, is_narrow, IsErrorAt}

@@ -9,7 +9,7 @@ use Rattle.lin_base.specs.declared.sums.Lin.{Lin}
 use Rattle.lin_base.specs.declared.facts.Fact.{Fact}
 use Rattle.lin_base.specs.declared.facts.Fact.TheVariants.{AtMostZero, Zero, Divides, NotDivides}
 use Rattle.lin_base.specs.Whole.{is_zero, is_positive, is_same, divides}
-use Rattle.lin_base.specs.Sum.{Valuation, assigned, value, coef, without, negated, add_number, number}
+use Rattle.lin_base.specs.Sum.{Valuation, assigned, value, coef, without, negated, add_number, number, above}
 use Rattle.lin_base.specs.Fact.{holds, clause_holds}
 use Rattle.lin_base.specs.Change.{replace}
 use Rattle.lin_base.specs.Steps.{negated_steps}
@@ -20,7 +20,6 @@ use Rattle.cert_tree.specs.declared.certs.Row.{Row}
 use Rattle.cert_tree.specs.declared.certs.Row.TheVariants.{Low}
 use Rattle.cert_tree.specs.Counting.{count_from, numbers_below}
 use Rattle.cert_tree.specs.Points.{Side, period, made_positive, not_divides_part}
-use Rattle.cert_tree.specs.Children.{above}
 use Rattle.cert_tree.specs.Rows.{row_clause, bounds_above, falls_out, stays_in}
 use Rattle.cert_tree.specs.Complete.{upper, instance, instances, lows, complete_rows, complete}
 use Rattle.cert_tree.proofs.Truth.{positive_out, positive_from}

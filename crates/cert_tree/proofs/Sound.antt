@@ -6,7 +6,7 @@ use Rattle.std.proofs.lemmas.Int.{ints}
 use Rattle.std.proofs.lemmas.Bool.{and_parts, and_from, cases_Bool, false≢true, ne_eqb, eqb-false}
 use Rattle.lin_base.specs.declared.facts.Fact.{Fact}
 use Rattle.lin_base.specs.declared.facts.Fact.TheVariants.{AtMostZero}
-use Rattle.lin_base.specs.Sum.{Valuation, assigned, value}
+use Rattle.lin_base.specs.Sum.{Valuation, assigned, value, above}
 use Rattle.lin_base.specs.Fact.{holds, ClauseHoldsAt}
 use Rattle.cert_tree.specs.declared.certs.Tree.{Tree}
 use Rattle.cert_tree.specs.declared.certs.Tree.TheOpen.{Tree-F, Case, Combine, Cut, Branch, Residues, Solve, Least, Clash}
@@ -16,7 +16,7 @@ use Rattle.cert_tree.specs.Counting.{is_free, is_one_of}
 use Rattle.cert_tree.specs.Narrow.{option_then}
 use Rattle.lin_base.proofs.Values.{assigned-other}
 use Rattle.lin_base.proofs.Truth.{same_holds}
-use Rattle.cert_tree.specs.Children.{with_each, cut_of, above, least_children, residue_children}
+use Rattle.cert_tree.specs.Children.{with_each, cut_of, least_children, residue_children}
 use Rattle.cert_tree.specs.Stands.{Node, each_stands, is_open_case, tree_stands}
 use Rattle.cert_tree.proofs.Truth.{is_proper, Good, EachHolds, SomeHolds, some_and_out, option_then_out, all_at, all_snoc, clash_false, each_with, branch_facts_out, combination_holds, cut_holds, above_holds, solve_child_holds, some_residue, not_or_right, not_or_left}
 use Rattle.cert_tree.proofs.Least.{least_some}

@@ -7,7 +7,7 @@ use Rattle.std.proofs.lemmas.Bool.{and_parts, cond_both, or_cases, not-true, bot
 use Rattle.lin_base.specs.declared.sums.Lin.{Lin}
 use Rattle.lin_base.specs.declared.facts.Fact.{Fact}
 use Rattle.lin_base.specs.declared.facts.Fact.TheVariants.{AtMostZero, Zero, Divides, NotDivides}
-use Rattle.lin_base.specs.Sum.{Terms, Valuation, value, coef, occurs, without, negated, add_number}
+use Rattle.lin_base.specs.Sum.{Terms, Valuation, value, coef, occurs, without, negated, add_number, above}
 use Rattle.lin_base.specs.Fact.{holds, sum_of, is_false, is_lin}
 use Rattle.cert_tree.specs.Counting.{count_from, numbers_below, is_over_free}
 use Rattle.lin_base.specs.Whole.{is_same}
@@ -17,13 +17,13 @@ use Rattle.lin_base.specs.Whole.{is_zero, is_positive, divides}
 use Rattle.lin_base.specs.declared.wides.Wide.{Wide}
 use Rattle.lin_base.specs.Change.{replace, replaced, tight}
 use Rattle.lin_base.specs.Combine.{combined, combined_steps}
-use Rattle.lin_base.specs.Steps.{is_narrow, negated_steps}
+use Rattle.lin_base.specs.Steps.{is_narrow, negated_steps, above_steps}
 use Rattle.lin_base.proofs.Ring.{le_in, lt_in, mul_positive, le_zero_up, is_zero_out, divides_in, neg-mul}
 use Rattle.lin_base.proofs.Values.{value-add_number, value-negated, value-split}
 use Rattle.lin_base.proofs.Tightening.{residue_of, tight_keeps}
 use Rattle.lin_base.proofs.Truth.{same_holds, holds-replace}
 use Rattle.lin_base.proofs.Combine.{IsSmall, small_combined}
-use Rattle.cert_tree.specs.Children.{with_each, part_of, and_part, parts_at, combination, cut_of, above, above_steps, branch_facts, residue, residue_children, zero_with, with_value, solve_steps, solve_child}
+use Rattle.cert_tree.specs.Children.{with_each, part_of, and_part, parts_at, combination, cut_of, branch_facts, residue, residue_children, zero_with, with_value, solve_steps, solve_child}
 use Rattle.cert_tree.specs.Points.{Side, solved, moved, divides_part}
 use Rattle.cert_tree.specs.Narrow.{some_and, option_then, if_narrow}
 

@@ -12,7 +12,7 @@ use Rattle.lin_base.specs.declared.sums.Lin.{Lin}
 use Rattle.lin_base.specs.declared.facts.Fact.{Fact}
 use Rattle.lin_base.specs.declared.facts.Fact.TheVariants.{AtMostZero, Zero, Divides, NotDivides}
 use Rattle.lin_base.specs.Whole.{is_zero, divides}
-use Rattle.lin_base.specs.Sum.{Terms, value, value_of_terms}
+use Rattle.lin_base.specs.Sum.{Terms, value, value_of_terms, occurs}
 use Rattle.lin_base.specs.Unknowns.{put_in, put_terms_in, unknowns_of}
 use Rattle.lin_base.specs.Fact.{holds, holds_at, sum_of, clause_holds}
 use Rattle.lin_base.specs.Steps.{is_narrow}
@@ -135,6 +135,27 @@ module _ (params : ℕ) (values : List ℤ) (clause : List Fact) where
       by_steps : (b : Bool) → cond b (Some (put_from 0 values clause)) None ≡ None → (b && ground_holds (variables params (put_from 0 values clause)) (put_from 0 values clause)) ≡ false
       by_steps true h = absurd (cc)
       by_steps false h = refl
+
+-- ---- a parameter that doesn't occur
+neither : (a b : Bool) → (a || b) ≡ false → (a ≡ false) × (b ≡ false)
+neither true b h = absurd (cc)
+neither false b h = (refl, h)
+
+module _ (p : ℕ) (z : ℤ) where
+  absent_steps : (fs : List Fact) → occurs_in p fs ≡ false → at_steps p z fs ≡ []
+  absent_steps [] h = refl
+  absent_steps (f ∷ fs) h =
+      let both = neither (occurs p (sum_of f)) (occurs_in p fs) h in
+      rw (both.0, absent_steps fs both.1) refl
+
+  absent_value : (fs : List Fact) → occurs_in p fs ≡ false → at_value p z fs ≡ fs
+  absent_value [] h = refl
+  absent_value (f ∷ fs) h =
+      let both = neither (occurs p (sum_of f)) (occurs_in p fs) h in
+      rw (both.0, absent_value fs both.1) refl
+
+  pub absent_put : (fs : List Fact) → occurs_in p fs ≡ false → Some fs ≡ if_narrow (at_steps p z fs) (at_value p z fs)
+  absent_put fs h = rw (absent_steps fs h, absent_value fs h) refl
 
 -- from a place on
 abbrev pub put_onto : ℕ → List ℤ → List Fact → Option (List Fact)

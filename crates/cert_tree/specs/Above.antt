@@ -2,7 +2,7 @@
 use Rattle.std.specs.Prelude.{ℤ, ◌*ℤ◌}
 use Rattle.cert_tree.specs.declared.sums.Side.{Side}
 use Rattle.cert_tree.specs.declared.test_points.Bound.{Bound}
-use Rattle.cert_tree.specs.Children.{above}
+use Rattle.lin_base.specs.Sum.{above}
 
 -- at 1 - u and on, b*D instances
 abbrev pub above_bound : ℤ → Side → Bound

@@ -7,6 +7,7 @@ use Rattle.cert_tree.specs.declared.test_points.Bound.{Bound as Parts}
 use Rattle.cert_tree.specs.Sides.{side_of}
 use Rattle.cert_tree.specs.Children.{Bound}
 
+-- the bound alone
 abbrev pub bound_of : Bound → Parts
 bound_of e = record { side = side_of e.side; children = e.children }
 

@@ -6,6 +6,7 @@ use Rattle.lin_base.specs.declared.facts.Fact.{Fact}
 use Rattle.lin_base.specs.Sum.{occurs, each_unknown}
 use Rattle.lin_base.specs.Fact.{sum_of}
 
+-- n numbers from i on
 abbrev pub count_from : ℕ → ℕ → List ℕ
 count_from i zero = []
 count_from i (suc n) = i ∷ count_from (suc i) n
@@ -15,6 +16,7 @@ abbrev pub numbers_below : ℤ → List ℕ
 numbers_below (pos n) = count_from 0 n
 numbers_below _ = []
 
+-- x is one of the numbers
 abbrev pub is_one_of : List ℕ → ℕ → Bool
 is_one_of xs x = list_any (λ y. y == x) xs
 

@@ -11,9 +11,11 @@ use Rattle.cert_tree.specs.Counting.{occurs_in}
 use Rattle.cert_tree.specs.Rows.{row_clause}
 use Rattle.cert_tree.specs.Complete.{complete_rows, complete_steps}
 
+-- the unknowns of several facts, ascending
 abbrev pub unknowns : List Fact → List ℕ
 unknowns facts = unknowns_of (map sum_of facts)
 
+-- the unknowns that are no parameters, ascending
 abbrev pub variables : ℕ → List Fact → List ℕ
 variables params clause = filter (λ x. nat_le params x) (unknowns clause)
 
@@ -22,11 +24,13 @@ variables params clause = filter (λ x. nat_le params x) (unknowns clause)
 abbrev pub Numbered : Type 0
 Numbered = ℕ × List Fact
 
+-- the rows that ground clauses, what is left of the clauses, and the steps
 pub record Grounding : Type 0 where
   pub rows : List Row
   pub clauses : List Numbered
   pub steps : List Wide
 
+-- one after the other
 abbrev pub then_ground : Grounding → Grounding → Grounding
 then_ground g h = record { rows = g.rows ++ h.rows; clauses = g.clauses ++ h.clauses; steps = g.steps ++ h.steps }
 
@@ -47,8 +51,10 @@ ground_by (x ∷ xs) next c = elim (occurs_in x c.1) [
   | false ↦ ground_by xs next c
 ]
 
+-- a clause, by its variables from the least on
 abbrev pub ground_clause : ℕ → ℕ → Numbered → Grounding
 ground_clause params next c = ground_by (variables params c.1) next c
 
+-- of a pool; the first row has the number after the last clause
 abbrev pub grounding : Pool → Grounding
 grounding pool = ground_each (ground_clause pool.params) (length pool.clauses) (enumerate_from 0 pool.clauses)

@@ -16,6 +16,7 @@ use Rattle.cert_tree.specs.Ground.{Grounding, ground_clause}
 abbrev pub at_value : ℕ → ℤ → List Fact → List Fact
 at_value p z clause = map (replace p (pos 1) (number z)) clause
 
+-- the literals in order
 abbrev pub at_steps : ℕ → ℤ → List Fact → List Wide
 at_steps p z clause = replace_all_steps p (pos 1) (number z) clause
 
@@ -24,6 +25,7 @@ abbrev pub put_from : ℕ → List ℤ → List Fact → List Fact
 put_from p [] clause = clause
 put_from p (z ∷ values) clause = put_from (suc p) values (map (replace p (pos 1) (number z)) clause)
 
+-- value by value, each in the clause as the earlier ones left it
 abbrev pub put_steps_from : ℕ → List ℤ → List Fact → List Wide
 put_steps_from p [] clause = []
 put_steps_from p (z ∷ values) clause =
@@ -33,9 +35,11 @@ put_steps_from p (z ∷ values) clause =
 abbrev pub grounded_at : ℕ → List ℤ → List Fact → Grounding
 grounded_at params values clause = ground_clause params 0 (0, put_from 0 values clause)
 
+-- of a clause: the values put, then Complete
 abbrev pub check_steps : ℕ → List ℤ → List Fact → List Wide
 check_steps params values clause = put_steps_from 0 values clause ++ (grounded_at params values clause).steps
 
+-- each clause without unknowns is true, and no step leaves the range
 abbrev pub clause_checks : ℕ → List ℤ → List Fact → Bool
 clause_checks params values clause =
     is_narrow (check_steps params values clause) && list_all (λ c. clause_holds (λ x. pos 0) c.1) (grounded_at params values clause).clauses
@@ -44,6 +48,7 @@ clause_checks params values clause =
 abbrev pub checks : Pool → List ℤ → Bool
 checks pool values = length values == pool.params && list_all (clause_checks pool.params values) pool.clauses
 
+-- the values hold for the pool
 abbrev pub Holds : Pool → List ℤ → Type 0
 Holds pool values = IsTrue (checks pool values)
 

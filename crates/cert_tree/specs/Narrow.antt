@@ -10,6 +10,7 @@ abbrev pub some_and : {A : Type 0} → Option A → (A → Bool) → Bool
 some_and None test = false
 some_and (Some a) test = test a
 
+-- what f gives of the value, where both are there
 abbrev pub option_then : {A B : Type 0} → Option A → (A → Option B) → Option B
 option_then None f = None
 option_then (Some a) f = f a

@@ -16,6 +16,7 @@ use Rattle.cert_tree.specs.Counting.{occurs_in}
 use Rattle.cert_tree.specs.Narrow.{option_then}
 use Rattle.cert_tree.specs.Points.{not_divides_part}
 
+-- x is no parameter and occurs in the clause
 abbrev pub is_variable_of : ℕ → ℕ → List Fact → Bool
 is_variable_of params x clause = nat_le params x && occurs_in x clause
 
@@ -34,6 +35,7 @@ falls_out x (AtMostZero t) = not (is_zero (coef x t))
 falls_out x (Zero t) = not (is_zero (coef x t))
 falls_out x _ = false
 
+-- the literals that are no AtMostZero or Zero facts with x
 abbrev pub stays_in : ℕ → List Fact → List Fact
 stays_in x clause = filter (λ f. not (falls_out x f)) clause
 
@@ -51,6 +53,7 @@ instance_is_allowed params clause x a t =
 abbrev pub low_is_allowed : ℕ → List Fact → ℕ → Bool
 low_is_allowed params clause x = is_variable_of params x clause && not (list_any (bounds_above x) clause)
 
+-- the condition of the row
 abbrev pub row_is_allowed : ℕ → List Fact → Row → Bool
 row_is_allowed params clause (Inst n x a t) = instance_is_allowed params clause x a t
 row_is_allowed params clause (Low n x j) = low_is_allowed params clause x
@@ -63,6 +66,7 @@ instance_at x a t clause = not_divides_part a t ++ map (replace x a t) clause
 abbrev pub low_at : ℕ → ℤ → List Fact → List Fact
 low_at x j clause = map (replace x (pos 1) (number j)) (stays_in x clause)
 
+-- the literals that stay, in order
 abbrev pub low_steps : ℕ → ℤ → List Fact → List Wide
 low_steps x j clause = replace_all_steps x (pos 1) (number j) (stays_in x clause)
 
@@ -71,10 +75,12 @@ abbrev pub row_clause : List Fact → Row → List Fact
 row_clause clause (Inst n x a t) = instance_at x a t clause
 row_clause clause (Low n x j) = low_at x j clause
 
+-- the literals in order
 abbrev pub row_steps : List Fact → Row → List Wide
 row_steps clause (Inst n x a t) = replace_all_steps x a t clause
 row_steps clause (Low n x j) = low_steps x j clause
 
+-- the condition holds, and no step leaves the range
 abbrev pub row_stands_on : ℕ → List Fact → Row → Bool
 row_stands_on params clause row = row_is_allowed params clause row && is_narrow (row_steps clause row)
 
@@ -83,6 +89,7 @@ abbrev pub instance_on : ℕ → List Fact → ℕ → ℤ → Lin → Option (L
 instance_on params clause x a t =
     if instance_is_allowed params clause x a t && is_narrow (replace_all_steps x a t clause) then Some (instance_at x a t clause) else None
 
+-- the clause that a row Low gives, where it stands
 abbrev pub low_on : ℕ → List Fact → ℕ → ℤ → Option (List Fact)
 low_on params clause x j =
     if low_is_allowed params clause x && is_narrow (low_steps x j clause) then Some (low_at x j clause) else None
@@ -92,6 +99,7 @@ abbrev pub row_on : ℕ → Row → Option (List Fact) → Option (List Fact)
 row_on params row None = None
 row_on params row (Some clause) = if row_stands_on params clause row then Some (row_clause clause row) else None
 
+-- that over the clause of its number
 abbrev pub row_over : ℕ → List (List Fact) → Row → Option (List Fact)
 row_over params clauses row = row_on params row (slice_get clauses (clause_of row))
 

@@ -37,6 +37,7 @@ pub record Child : Type 0 where
   pub back : Valuation → Valuation
   pub back_formed : Valuation → List ℤ
 
+-- a child whose facts are formed of nothing new, and whose values are those below it
 abbrev pub as_it_is : List Fact → Child
 as_it_is facts = record { facts = facts; formed = []; back = λ v. v; back_formed = λ v. [] }
 
@@ -66,11 +67,13 @@ abbrev pub leaf_of : Found Tree → Visit Tree
 leaf_of found = record { nodes = 1; found = found; formed = [] }
 
 -- ---- 1: the first fact that has no unknown and is false
+-- a false fact closes the node, else it is visited
 abbrev pub or_clash : Option ℕ → Visit Tree → Visit Tree
 or_clash (Some n) visit = leaf_of (closed (roll-Tree (Clash n)))
 or_clash None visit = visit
 
 -- ---- 3: the first Zero fact with a parameter, and its parameter with the least absolute coefficient
+-- the unknown with the least absolute coefficient, the first of equals
 abbrev pub least_coef : Terms → Option (ℕ × ℤ)
 least_coef [] = None
 least_coef ((x, k) ∷ ts) = elim (least_coef ts) [
@@ -78,15 +81,18 @@ least_coef ((x, k) ∷ ts) = elim (least_coef ts) [
   | Some e ↦ Some (if nat_lt (unsigned_abs e.1) (unsigned_abs k) then e else (x, k))
 ]
 
+-- a Zero fact, by its number and its sum, and the parameter for which it is solved
 pub record Choice : Type 0 where
   pub fact : ℕ
   pub p : ℕ
   pub sum : Lin
 
+-- that of a fact, where it is a Zero fact with a parameter
 abbrev pub choice_in : ℕ → Fact → Option Choice
 choice_in n (Zero t) = elim (least_coef t.coefs) [ None ↦ None | Some e ↦ Some (record { fact = n; p = e.0; sum = t }) ]
 choice_in n _ = None
 
+-- that of the first such fact
 abbrev pub choice_from : ℕ → List Fact → Option Choice
 choice_from n [] = None
 choice_from n (f ∷ fs) = elim (choice_in n f) [ Some c ↦ Some c | None ↦ choice_from (suc n) fs ]
@@ -111,10 +117,15 @@ abbrev pub top_of : ℕ → Valuation → Fact → Option ℤ
 top_of p v (AtMostZero t) = if occurs p t then Some (div_floor (neg_ℤ (value v (without p t))) (coef p t)) else None
 top_of p v _ = None
 
+-- the numbers that are formed for it: the rest at the values, -1 times that, the rounded quotient
 abbrev pub top_formed : ℕ → Valuation → Fact → List ℤ
-top_formed p v (AtMostZero t) = if occurs p t then results (value_steps v (without p t)) ++ neg_ℤ (value v (without p t)) ∷ [] else []
+top_formed p v (AtMostZero t) =
+    if occurs p t
+    then results (value_steps v (without p t)) ++ neg_ℤ (value v (without p t)) ∷ div_floor (neg_ℤ (value v (without p t))) (coef p t) ∷ []
+    else []
 top_formed p v _ = []
 
+-- the least of several numbers
 abbrev pub least_of : List ℤ → Option ℤ
 least_of [] = None
 least_of (z ∷ zs) = elim (least_of zs) [ None ↦ Some z | Some y ↦ Some (int_min z y) ]
@@ -126,18 +137,22 @@ far_value p facts j v = elim (least_of (filter_map (top_of p v) facts)) [
   | Some top ↦ top -ℤ int_rem_euclid (top -ℤ pos j) (period p facts)
 ]
 
+-- child j where p is far down
 abbrev pub far_child : ℕ → List Fact → ℕ → Child
 far_child p facts j = giving p (far_value p facts j) (λ v. flat_map (top_formed p v) facts) (results (flat_map (far_down_steps p j) facts)) (map (far_down p j) facts)
 
+-- by lower bound and then by j, or by remainder where there is no bound
 abbrev pub least_children_of : ℕ → List Fact → List Bound → List Child
 least_children_of p facts [] = map (far_child p facts) (numbers_below (period p facts))
 least_children_of p facts (e ∷ es) = flat_map (λ b. map (bound_child p facts b) (numbers_below b.children)) (e ∷ es)
 
+-- the only child of Solve
 abbrev pub the_one : List Tree → Tree
 the_one [] = roll-Tree (Clash 0)
 the_one (t ∷ ts) = t
 
 -- ---- 1, 3, 4 and 5, over at most k parameters
+-- a node without a clause left: closed, solved, split by Least, or satisfied
 abbrev pub eliminate : ℕ → List Fact → Visit Tree
 eliminate zero facts = or_clash (position is_false facts) (leaf_of (satisfied (λ x. pos 0)))
 eliminate (suc k) facts = elim (position is_false facts) [
@@ -152,6 +167,7 @@ eliminate (suc k) facts = elim (position is_false facts) [
 ]
 
 -- ---- 1 and 2: the clauses in order, then 3 to 5
+-- a node with clauses left: closed, or one child for each literal of the first
 abbrev pub searched : List Numbered → List Fact → Visit Tree
 searched [] facts = eliminate (length (unknowns facts)) facts
 searched (c ∷ rest) facts = elim (position is_false facts) [

@@ -37,11 +37,13 @@ numbered_stand steps state used i (node ∷ nodes) = is_narrow (steps i) && (nod
 abbrev pub is_open_case : ℕ → List ℕ → List Fact → Bool
 is_open_case params used clause = list_all (λ f. is_over_free params used (sum_of f)) clause
 
+-- m is at least 2 and the number of children, t is a sum over parameters that are not used up, and each child stands with its remainder
 abbrev pub residues_stand : ℕ → ℤ → Lin → List Node → Node
 residues_stand params m t children used facts =
     int_le (pos 2) m && is_lin t && is_over_free params used t && is_same (pos (length children)) m
     && (is_narrow (residues_steps m t) && each_stands used children (residue_children facts m t))
 
+-- p is a parameter that is not used up, and each child stands at its test point
 abbrev pub least_stands : ℕ → ℕ → List Node → Node
 least_stands params p children used facts =
     is_free params used p && (is_narrow (least_steps p facts) && each_stands (p ∷ used) children (least_children p facts))
@@ -61,6 +63,7 @@ node_stands params clauses (Solve n p child) used facts = some_and (solve_child 
 node_stands params clauses (Least p children) used facts = least_stands params p children used facts
 node_stands params clauses (Clash n) used facts = some_and (slice_get facts n) is_false
 
+-- a tree, over the clauses of the extended pool
 abbrev pub tree_stands : ℕ → List (List Fact) → Tree → Node
 tree_stands params clauses = fold-Tree Node (node_stands params clauses)
 
@@ -68,5 +71,6 @@ tree_stands params clauses = fold-Tree Node (node_stands params clauses)
 abbrev pub stands : Pool → Cert → Bool
 stands pool cert = some_and (extended pool.params cert.rows pool.clauses) (λ clauses. tree_stands pool.params clauses cert.tree [] [])
 
+-- the certificate stands for the pool
 abbrev pub Stands : Pool → Cert → Type 0
 Stands pool cert = IsTrue (stands pool cert)

@@ -213,7 +213,7 @@ fn zero_at(facts: &[Fact], number: u32, p: u32) -> Option<&Lin>
 
 /// Each fact with what `p` is by the sum `t` that is 0.
 #[tactic(auto, using(crate::proofs::Replacing::solving))]
-fn solved_facts(
+pub fn solved_facts(
     alloc: Global,
     p: u32,
     t: &Lin,

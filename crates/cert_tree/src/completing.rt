@@ -14,9 +14,9 @@ ghost use Rattle.cert_tree.specs.Rows.{low_at, low_steps};
 ghost use Rattle.cert_tree.specs.Sides.{side_of};
 
 use crate::rows::{formed_far_down, formed_instance, has_upper_bound};
-use crate::sums::{Side, formed_above, made_positive, narrow, parts_at};
+use crate::sums::{Side, made_positive, narrow, parts_at};
 use crate::test_points::{Bound, moved_up, period};
-use lin_base::{ArithmeticError, Fact, checked_mul, coef, number};
+use lin_base::{ArithmeticError, Fact, above, checked_mul, coef, number};
 use sqlite_items::Items;
 use std::alloc::{AllocError, Global};
 
@@ -34,7 +34,7 @@ fn length_of(count: &i128) -> Result<usize, ArithmeticError>
 
 /// `b*x + u` with `b` positive, of an AtMostZero fact, or of a Zero fact made so.
 #[tactic(auto, using(crate::proofs::Forming::forming))]
-fn formed_upper(alloc: Global, x: u32, fact: &Fact) -> Result<Option<Side>, ArithmeticError>
+pub fn formed_upper(alloc: Global, x: u32, fact: &Fact) -> Result<Option<Side>, ArithmeticError>
     requires { IsTrue (is_fact fact.now) }
     ensures { Forms result (spec.upper_steps (spec.upper x fact.now)) (option_map side_of (spec.upper x fact.now)) }
 {
@@ -99,7 +99,7 @@ fn formed_above_bound(alloc: Global, d: &i128, side: &Side) -> Result<Bound, Ari
     ensures { Forms result (spec.above_bound_steps d.now side.now.b side.now.rest) (bounds.above_bound d.now side.now) }
 {
     let children = checked_mul(side.b, *d)?;
-    let rest = formed_above(alloc, &side.rest)?;
+    let rest = above(alloc, &side.rest)?;
     let side = Side { b: side.b, rest };
     Ok(Bound { side, children })
 }

@@ -99,6 +99,23 @@ fn at_value(
     narrow(formed_at(alloc, p, z, clause))
 }
 
+/// The clause with a value for a parameter: as it is where the parameter doesn't occur. None where a number leaves the range.
+fn put_value(
+    alloc: Global,
+    p: u32,
+    z: &i128,
+    clause: Items<Fact>,
+) -> Result<Option<Items<Fact>>, AllocError>
+    requires { IsTrue (list_all is_fact clause) }
+    ensures value { IfOk result (λ o. o ≡ if_narrow (spec.at_steps p z.now clause) (spec.at_value p z.now clause)) }
+    ensures well_formed { IfOk result (λ o. IfSome o (λ fs. IsTrue (list_all is_fact fs))) }
+{
+    if !occurs_in(p, clause.as_slice()) {
+        return Ok(Some(clause));
+    }
+    at_value(alloc, p, z, clause.as_slice())
+}
+
 /// The clause with the values for the parameters, put one after the other. None where a number leaves the range.
 fn at_values(
     alloc: Global,
@@ -112,7 +129,7 @@ fn at_values(
 {
     let mut put = copy_facts(alloc, clause)?;
     for (p, z) in values.iter().enumerate() {
-        match at_value(alloc, p as u32, z, put.as_slice())? {
+        match put_value(alloc, p as u32, z, put)? {
             Some(next) => put = next,
             None => return Ok(None),
         }

@@ -2,18 +2,20 @@
 #![tactic(auto)]
 
 mod certs;
-mod children;
+pub mod children;
 mod clauses;
-mod completing;
+pub mod completing;
 mod holding;
 mod laws;
-mod rows;
+#[cfg(test)]
+mod node_tests;
+pub mod rows;
 mod standing;
-mod sums;
-mod test_points;
+pub mod sums;
+pub mod test_points;
 #[cfg(test)]
 mod tests;
-mod variables;
+pub mod variables;
 
 pub use certs::{Cert, Row, Tree};
 pub use holding::check_sat;

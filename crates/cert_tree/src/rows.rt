@@ -93,7 +93,7 @@ fn falls_out(x: u32, fact: &Fact) -> bool
 }
 
 /// The literals that are no AtMostZero or Zero facts with `x`.
-fn stays_in(alloc: Global, x: u32, clause: &[Fact]) -> Result<Items<Fact>, AllocError>
+pub fn stays_in(alloc: Global, x: u32, clause: &[Fact]) -> Result<Items<Fact>, AllocError>
     requires { IsTrue (list_all is_fact clause.now) }
     ensures { IfOk result (λ fs. fs ≡ spec.stays_in x clause.now) }
 {

@@ -1,38 +1,28 @@
 //! Sums that are formed within the range, as a node's children need them.
 
-ghost use Rattle.std.specs.Prelude.{◌≡◌, IfOk, IfSome, IsTrue};
+ghost use Rattle.std.specs.Prelude.{◌≡◌, IfErr, IfOk, IfSome, IsTrue};
+ghost use Rattle.lin_base.specs.declared.wides.ArithmeticError.TheVariants.{Memory};
 ghost use Rattle.lin_base.specs.Fact.{is_lin};
 ghost use Rattle.lin_base.specs.Sum as sum;
-ghost use Rattle.lin_base.specs.Sum.{coef};
-ghost use Rattle.lin_base.specs.Steps.{Forms};
+ghost use Rattle.lin_base.specs.Sum.{coef, above};
+ghost use Rattle.lin_base.specs.Steps.{Forms, above_steps};
 ghost use Rattle.cert_tree.specs.Narrow.{IsValueOf, if_narrow};
-ghost use Rattle.cert_tree.specs.Children.{above, above_steps};
 ghost use Rattle.cert_tree.specs.Points as points;
 ghost use Rattle.cert_tree.specs.Sides.{side_of};
 
-use lin_base::{ArithmeticError, Lin, add_number, checked_mul, coef, negate, without};
+use lin_base::{ArithmeticError, Lin, above, checked_mul, coef, negate, without};
 use std::alloc::{AllocError, Global};
 
-/// The value, or None where a number left the range.
+/// The value, or None where a number left the range. Want of memory is told where it was told.
 pub fn narrow<T: Drop>(formed: Result<T, ArithmeticError>) -> Result<Option<T>, AllocError>
-    ensures { IfOk result (IsValueOf formed) }
+    ensures value { IfOk result (IsValueOf formed) }
+    ensures memory { IfErr result (λ _. formed ≡ Err Memory) }
 {
     match formed {
         Ok(value) => Ok(Some(value)),
         Err(ArithmeticError::Wide(_)) => Ok(None),
         Err(ArithmeticError::Memory) => Err(AllocError),
     }
-}
-
-/// `-t + 1`
-#[tactic(auto, using(crate::proofs::Forming::forming))]
-pub fn formed_above(alloc: Global, t: &Lin) -> Result<Lin, ArithmeticError>
-    requires { IsTrue (is_lin t.now) }
-    ensures formed { Forms result (above_steps t.now) (above t.now) }
-    ensures well_formed { IfOk result (λ u. IsTrue (is_lin u)) }
-{
-    let negative = negate(alloc, t)?;
-    add_number(alloc, &negative, 1)
 }
 
 /// `-t + 1`, or None where a number leaves the range.
@@ -42,7 +32,7 @@ pub fn one_above(alloc: Global, t: &Lin) -> Result<Option<Lin>, AllocError>
     ensures value { IfOk result (λ u. u ≡ if_narrow (above_steps t.now) (above t.now)) }
     ensures well_formed { IfOk result (λ u. IfSome u (λ sum. IsTrue (is_lin sum))) }
 {
-    narrow(formed_above(alloc, t))
+    narrow(above(alloc, t))
 }
 
 /// A sum seen from an unknown `x`: `b*x + rest`, or `b*x = rest`.

@@ -3,7 +3,7 @@ use lin_base::{Fact, Lin, Pool, is_pool};
 use sqlite_items::{Boxed, Items};
 use std::alloc::{AllocError, Global};
 
-fn sum(alloc: Global, coefs: &[(u32, i128)], constant: i128) -> Result<Lin, AllocError> {
+pub(crate) fn sum(alloc: Global, coefs: &[(u32, i128)], constant: i128) -> Result<Lin, AllocError> {
     Ok(Lin {
         coefs: Items::from_slice(alloc, coefs)?,
         constant,
@@ -11,7 +11,7 @@ fn sum(alloc: Global, coefs: &[(u32, i128)], constant: i128) -> Result<Lin, Allo
 }
 
 /// A pool of clauses of one fact each.
-fn unit_pool(alloc: Global, params: u32, facts: Vec<Fact>) -> Result<Pool, AllocError> {
+pub(crate) fn unit_pool(alloc: Global, params: u32, facts: Vec<Fact>) -> Result<Pool, AllocError> {
     let mut clauses = Items::new(alloc);
     for fact in facts {
         let mut clause = Items::new(alloc);
@@ -21,7 +21,7 @@ fn unit_pool(alloc: Global, params: u32, facts: Vec<Fact>) -> Result<Pool, Alloc
     Ok(Pool { params, clauses })
 }
 
-fn case(alloc: Global, clause: u32, child: Tree) -> Result<Tree, AllocError> {
+pub(crate) fn case(alloc: Global, clause: u32, child: Tree) -> Result<Tree, AllocError> {
     let mut children = Items::new(alloc);
     children.push(child)?;
     Ok(Tree::Case { clause, children })
@@ -34,7 +34,11 @@ fn cut(alloc: Global, fact: u32, child: Tree) -> Result<Tree, AllocError> {
     })
 }
 
-fn combine(alloc: Global, list: &[(u32, i128)], child: Tree) -> Result<Tree, AllocError> {
+pub(crate) fn combine(
+    alloc: Global,
+    list: &[(u32, i128)],
+    child: Tree,
+) -> Result<Tree, AllocError> {
     Ok(Tree::Combine {
         list: Items::from_slice(alloc, list)?,
         child: Boxed::new(alloc, child)?,
@@ -42,7 +46,7 @@ fn combine(alloc: Global, list: &[(u32, i128)], child: Tree) -> Result<Tree, All
 }
 
 /// A certificate without rows.
-fn of_tree(alloc: Global, tree: Tree) -> Cert {
+pub(crate) fn of_tree(alloc: Global, tree: Tree) -> Cert {
     Cert {
         rows: Items::new(alloc),
         tree,
@@ -166,7 +170,7 @@ fn checks_a_clause_far_down(rt: HostRuntime) -> Result<(), AllocError> {
 }
 
 /// As many leaves at one fact.
-fn clashes(alloc: Global, fact: u32, count: usize) -> Result<Items<Tree>, AllocError> {
+pub(crate) fn clashes(alloc: Global, fact: u32, count: usize) -> Result<Items<Tree>, AllocError> {
     let mut leaves = Items::new(alloc);
     for _ in 0..count {
         leaves.push(Tree::Clash { fact })?;

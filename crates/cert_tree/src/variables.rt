@@ -47,7 +47,7 @@ fn with_unknowns(
 }
 
 /// The unknowns of a clause, ascending.
-fn unknowns(alloc: Global, clause: &[Fact]) -> Result<Items<u32>, AllocError>
+pub fn unknowns(alloc: Global, clause: &[Fact]) -> Result<Items<u32>, AllocError>
     ensures { IfOk result (λ xs. xs ≡ spec.unknowns clause.now) }
 {
     let mut made = Items::new(alloc);

@@ -13,4 +13,4 @@ returns-in-Some-clause-well_formed c =
     let fs = c.args.facts.now in
     let t = c.in-Some.t.now in
     let made = is_fact-solved_facts p fs t c.in-Some.ensures.occurring c.in-Some.ensures.well_formed c.requires in
-    narrow_keeps (λ gs. IsTrue (list_all is_fact gs)) c.solved_facts.result c.narrow.result (Forms-value (λ gs. IsTrue (list_all is_fact gs)) c.solved_facts.result (solve_steps p fs t) (solved_facts p fs t) c.solved_facts.ensures made) c.narrow.ensures
+    narrow_keeps (λ gs. IsTrue (list_all is_fact gs)) c.solved_facts.result c.narrow.result (Forms-value (λ gs. IsTrue (list_all is_fact gs)) c.solved_facts.result (solve_steps p fs t) (solved_facts p fs t) c.solved_facts.ensures made) c.narrow.ensures.value

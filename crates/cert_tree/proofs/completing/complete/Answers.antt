@@ -21,7 +21,7 @@ returns-in-Some-clause-value c =
     let r = c.formed_rows.result in
     let F : ℤ → Type 0 = λ z. Forms r (uppers_steps x fs z fs ++ lows_steps x fs z) (uppers_at x fs z fs ++ lows_at x fs z) in
     let Q : Option (List (List Fact)) → Type 0 = λ a. IfOk c.narrow.result (λ o. o ≡ a) in
-    subst Q (complete_value x fs c.in_ok-d.field-0 d c.in_ok-d.ensures.value c.in-Some.is) (narrow_gives r c.narrow.result (uppers_steps x fs d fs ++ lows_steps x fs d) (uppers_at x fs d fs ++ lows_at x fs d) (subst F e c.formed_rows.ensures) c.narrow.ensures)
+    subst Q (complete_value x fs c.in_ok-d.field-0 d c.in_ok-d.ensures.value c.in-Some.is) (narrow_gives r c.narrow.result (uppers_steps x fs d fs ++ lows_steps x fs d) (uppers_at x fs d fs ++ lows_at x fs d) (subst F e c.formed_rows.ensures) c.narrow.ensures.value)
 
 pub returns-in-None-clause-value : goal.returns-in-None-clause-value
 returns-in-None-clause-value c = sym (complete_none c.args.x c.args.clause.now c.in_ok-d.field-0 c.in_ok-d.ensures.value c.in-None.is)
@@ -33,4 +33,4 @@ returns-in-Some-clause-well_formed c =
     let z = to_z w128 (of_z w128 c.in-Some.d) in
     let r = c.formed_rows.result in
     let P : List (List Fact) → Type 0 = λ cs. IsTrue (list_all (list_all is_fact) cs) in
-    narrow_keeps P r c.narrow.result (Forms-value P r (uppers_steps x fs z fs ++ lows_steps x fs z) (uppers_at x fs z fs ++ lows_at x fs z) c.formed_rows.ensures (is_fact-rows x fs c.requires z)) c.narrow.ensures
+    narrow_keeps P r c.narrow.result (Forms-value P r (uppers_steps x fs z fs ++ lows_steps x fs z) (uppers_at x fs z fs ++ lows_at x fs z) c.formed_rows.ensures (is_fact-rows x fs c.requires z)) c.narrow.ensures.value

@@ -8,7 +8,7 @@ use Rattle.lin_base.proofs.Forming.{Forms-after, Forms-err, IsErrorAt-append_som
 use Rattle.cert_tree.specs.declared.test_points.Bound.{Bound}
 use Rattle.cert_tree.specs.Above.{above_bound}
 use Rattle.cert_tree.specs.Bounds.{is_side}
-use Rattle.cert_tree.specs.Children.{above}
+use Rattle.lin_base.specs.Sum.{above}
 use Rattle.cert_tree.specs.Counting.{count_from, numbers_below}
 use Rattle.cert_tree.specs.Complete.{above_bound_steps, moved_steps, moved_instance, instances_steps, instances_at}
 use Rattle.cert_tree.proofs.Pointing.{side_positive}

@@ -16,4 +16,4 @@ returns-clause-well_formed c =
     let z = c.args.z.now in
     let fs = c.args.clause.now in
     let P : List Fact → Type 0 = λ gs. IsTrue (list_all is_fact gs) in
-    narrow_keeps P c.formed_at.result c.narrow.result (Forms-value P c.formed_at.result (spec.at_steps p z fs) (spec.at_value p z fs) c.formed_at.ensures (each_replaced p (pos 1) (number z) (omega (arith, ints)) refl fs c.requires)) c.narrow.ensures
+    narrow_keeps P c.formed_at.result c.narrow.result (Forms-value P c.formed_at.result (spec.at_steps p z fs) (spec.at_value p z fs) c.formed_at.ensures (each_replaced p (pos 1) (number z) (omega (arith, ints)) refl fs c.requires)) c.narrow.ensures.value

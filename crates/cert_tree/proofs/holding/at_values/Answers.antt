@@ -2,8 +2,6 @@ use Rattle.std.proofs.Common.{◌≡◌, ◌∙◌, ap, refl, sym, subst, get_or
 use Rattle.std.specs.List.{list_all}
 use Rattle.lin_base.specs.declared.facts.Fact.{Fact}
 use Rattle.lin_base.specs.Fact.{is_fact}
-use Rattle.cert_tree.specs.Holds as spec
-use Rattle.cert_tree.specs.Narrow.{if_narrow}
 use Rattle.cert_tree.proofs.ValueChecks.{put_on, put_off}
 use Rattle.cert_tree.proofs.holding.at_values.Goals as goal
 
@@ -12,7 +10,7 @@ returns-in-None-clause-value c =
     let values = c.args.values.now in
     let p = c.loop-p.p in
     let z = get_or values p (pos 0) in
-    let is = c.in_ok-next.ensures.value ∙ ap (λ fs. if_narrow (spec.at_steps p z fs) (spec.at_value p z fs)) c.as_slice.ensures in
+    let is = c.in_ok-next.ensures.value in
     sym (c.loop-p.invariant.value ∙ put_off values p z c.loop-p.put c.in_ok-next.field-0 c.loop-p-test.true refl is c.in-None.is)
 
 pub loop-p-preserved : goal.loop-p-preserved
@@ -20,7 +18,7 @@ loop-p-preserved c =
     let values = c.args.values.now in
     let p = c.loop-p.p in
     let z = get_or values p (pos 0) in
-    let is = c.in_ok-next.ensures.value ∙ ap (λ fs. if_narrow (spec.at_steps p z fs) (spec.at_value p z fs)) c.as_slice.ensures in
+    let is = c.in_ok-next.ensures.value in
     let W : Option (List Fact) → Type 0 = λ o. IfSome o (λ fs. IsTrue (list_all is_fact fs)) in
     record {
       value = c.loop-p.invariant.value ∙ put_on values p z c.loop-p.put c.in_ok-next.field-0 c.loop-p-test.true refl is c.in-Some.next c.in-Some.is;

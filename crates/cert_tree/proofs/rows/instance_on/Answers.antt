@@ -26,4 +26,4 @@ returns-clause-well_formed c =
     let clause = c.args.clause.now in
     let is = allowed c.args.params clause x a t (sym c.instance_is_allowed.ensures ∙ c.if-not-instance_is_allowed.false) in
     let P : List Fact → Type 0 = λ fs. IsTrue (list_all is_fact fs) in
-    narrow_keeps P c.formed_instance.result c.narrow.result (Forms-value P c.formed_instance.result (replace_all_steps x a t clause) (instance_at x a t clause) c.formed_instance.ensures (is_fact-instance_at x a t clause is.0 is.1 c.requires)) c.narrow.ensures
+    narrow_keeps P c.formed_instance.result c.narrow.result (Forms-value P c.formed_instance.result (replace_all_steps x a t clause) (instance_at x a t clause) c.formed_instance.ensures (is_fact-instance_at x a t clause is.0 is.1 c.requires)) c.narrow.ensures.value

@@ -14,4 +14,4 @@ returns-clause-well_formed c =
     let j = c.args.j.now in
     let clause = c.args.clause.now in
     let P : List Fact → Type 0 = λ fs. IsTrue (list_all is_fact fs) in
-    narrow_keeps P c.formed_low.result c.narrow.result (Forms-value P c.formed_low.result (low_steps x j clause) (low_at x j clause) c.formed_low.ensures (is_fact-low_at x j clause c.requires)) c.narrow.ensures
+    narrow_keeps P c.formed_low.result c.narrow.result (Forms-value P c.formed_low.result (low_steps x j clause) (low_at x j clause) c.formed_low.ensures (is_fact-low_at x j clause c.requires)) c.narrow.ensures.value

@@ -13,4 +13,4 @@ returns-clause-well_formed c =
     let p = c.args.p in
     let fs = c.args.facts.now in
     let P : List Fact → Type 0 = λ gs. IsTrue (list_all is_fact gs) in
-    narrow_keeps P c.formed_far.result c.narrow.result (Forms-value P c.formed_far.result (spec.far_child_steps p fs c.args.j) (spec.far_child p fs c.args.j) c.formed_far.ensures (is_fact-far_child p fs c.args.j c.requires)) c.narrow.ensures
+    narrow_keeps P c.formed_far.result c.narrow.result (Forms-value P c.formed_far.result (spec.far_child_steps p fs c.args.j) (spec.far_child p fs c.args.j) c.formed_far.ensures (is_fact-far_child p fs c.args.j c.requires)) c.narrow.ensures.value

@@ -14,4 +14,4 @@ returns-clause-well_formed c =
     let d = c.args.d.now in
     let f = c.args.fact.now in
     let P : Option Bound → Type 0 = λ o. IfSome o (λ b. IsTrue (is_side p b.side)) in
-    narrow_keeps P c.formed_bound.result c.narrow.result (Forms-value P c.formed_bound.result (spec.bound_steps_of (spec.lower_bound p d f)) (option_map bound_of (spec.lower_bound p d f)) c.formed_bound.ensures (lower_bound_is p d f c.requires)) c.narrow.ensures
+    narrow_keeps P c.formed_bound.result c.narrow.result (Forms-value P c.formed_bound.result (spec.bound_steps_of (spec.lower_bound p d f)) (option_map bound_of (spec.lower_bound p d f)) c.formed_bound.ensures (lower_bound_is p d f c.requires)) c.narrow.ensures.value

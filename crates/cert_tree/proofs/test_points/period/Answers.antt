@@ -10,4 +10,4 @@ returns-clause-positive c =
     let x = c.args.x in
     let fs = c.args.facts.now in
     let P : ℤ → Type 0 = λ d. pos 1 ≤ℤ d in
-    narrow_keeps P c.formed_period.result c.narrow.result (Forms-value P c.formed_period.result (points.period_steps x fs) (points.period x fs) c.formed_period.ensures (period_up x fs c.requires)) c.narrow.ensures
+    narrow_keeps P c.formed_period.result c.narrow.result (Forms-value P c.formed_period.result (points.period_steps x fs) (points.period x fs) c.formed_period.ensures (period_up x fs c.requires)) c.narrow.ensures.value

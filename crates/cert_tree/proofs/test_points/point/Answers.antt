@@ -14,4 +14,4 @@ returns-clause-well_formed c =
     let e = c.args.side.now in
     let fs = c.args.facts.now in
     let P : List Fact → Type 0 = λ gs. IsTrue (list_all is_fact gs) in
-    narrow_keeps P c.formed_point.result c.narrow.result (Forms-value P c.formed_point.result (spec.point_steps p fs e.b e.rest c.args.j) (spec.point p fs e.b e.rest c.args.j) c.formed_point.ensures (is_fact-point p fs e c.args.j c.requires.side c.requires.facts)) c.narrow.ensures
+    narrow_keeps P c.formed_point.result c.narrow.result (Forms-value P c.formed_point.result (spec.point_steps p fs e.b e.rest c.args.j) (spec.point p fs e.b e.rest c.args.j) c.formed_point.ensures (is_fact-point p fs e c.args.j c.requires.side c.requires.facts)) c.narrow.ensures.value

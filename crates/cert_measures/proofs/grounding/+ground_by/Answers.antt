@@ -1,0 +1,46 @@
+use Rattle.std.proofs.Common.{◌≡◌, refl, sym, ◌∙◌, ap, subst, arith, drop, take, map, length, get_or, pos, ℕ, ℤ, [], ◌∷◌, ◌+◌, ◌-◌, ◌++◌, Ok, Err, List, IsTrue}
+use Rattle.std.proofs.lemmas.List.{at_drop_more, at_drop_all}
+use Rattle.std.proofs.lemmas.Grind.{common_steps}
+use Rattle.cert_measures.specs.Grounding.{rows_by, steps_by, clauses_by}
+use Rattle.std.proofs.lemmas.List.{length-append}
+use Rattle.std.specs.List.{flat_map, list_all}
+use Rattle.std.specs.Prelude.{sum_by}
+use Rattle.std.proofs.Common.{append_assoc}
+use Rattle.std.proofs.lemmas.List.Folds.{list_all-append}
+use Rattle.std.proofs.lemmas.Bool.{and_from}
+use Rattle.lin_base.specs.declared.facts.Fact.{Fact}
+use Rattle.lin_base.specs.Fact.{is_fact}
+use Rattle.lin_base.specs.Numbers.{results}
+use Rattle.cert_measures.specs.Metering.{IsAfter, IsCause}
+use Rattle.cert_measures.proofs.Metering.{due_step, due_end, due_err, metered_err, results-append}
+use Rattle.cert_measures.proofs.grounding.+ground_by.Goals as goal
+
+pub ground_each-returns-in_err-left : goal.ground_each-returns-in_err-left
+ground_each-returns-in_err-left t c =
+    let vs = c.args.variables.now in
+    let xs = c.args.clauses.now in
+    let i = c.loop-clause.clause-index in
+    let y = c.clause-item.result in
+    let e = c.in_err-left.field-0.0 in
+    let E : List Fact → Type 0 = λ y. IsCause e c.loop-clause.meter.room (rows_by vs y) (results (steps_by vs y)) in
+    let is : c.from_residual.result ≡ Err e = grind (arith, common_steps) in
+    metered_err _ e c.args.meter.now c.ground_by.new.meter (sum_by (rows_by vs) xs) (results (flat_map (steps_by vs) xs)) _ is
+    (due_err e c.loop-clause.meter c.args.meter.now (sum_by (rows_by vs) (drop (i + 1) xs)) (rows_by vs y) (sum_by (rows_by vs) (drop i xs)) (sum_by (rows_by vs) xs) (results (steps_by vs y)) (results (flat_map (steps_by vs) (drop (i + 1) xs))) (results (flat_map (steps_by vs) (drop i xs))) (results (flat_map (steps_by vs) xs)) c.loop-clause.invariant.due (at_drop_more (λ us. sum_by (rows_by vs) us) xs i y c.loop-clause-test.true ∙ ap (λ y. sum_by (rows_by vs) (y ∷ (drop (i + 1) xs))) (sym c.clause-item.is)) (at_drop_more (λ us. results (flat_map (steps_by vs) us)) xs i y c.loop-clause-test.true ∙ ap (λ y. results (flat_map (steps_by vs) (y ∷ (drop (i + 1) xs)))) (sym c.clause-item.is) ∙ results-append (steps_by vs y) (flat_map (steps_by vs) (drop (i + 1) xs))) (subst E c.as_slice.ensures c.in_err-left.ensures.formed.1))
+
+pub ground_each-loop-clause-preserved : goal.ground_each-loop-clause-preserved
+ground_each-loop-clause-preserved t c =
+    let vs = c.args.variables.now in
+    let xs = c.args.clauses.now in
+    let i = c.loop-clause.clause-index in
+    let y = c.clause-item.result in
+    let S : List Fact → Type 0 = λ y. IsAfter c.ground_by.new.meter c.loop-clause.meter (rows_by vs y) (results (steps_by vs y)) × (c.in_ok-left.left ≡ clauses_by vs y) in
+    let told = subst S c.as_slice.ensures c.in_ok-left.ensures.formed.0 in
+    record {
+      due = due_step c.ground_by.new.meter c.loop-clause.meter c.args.meter.now (sum_by (rows_by vs) (drop (i + 1) xs)) (rows_by vs y) (sum_by (rows_by vs) (drop i xs)) (sum_by (rows_by vs) xs) (results (steps_by vs y)) (results (flat_map (steps_by vs) (drop (i + 1) xs))) (results (flat_map (steps_by vs) (drop i xs))) (results (flat_map (steps_by vs) xs)) c.loop-clause.invariant.due (at_drop_more (λ us. sum_by (rows_by vs) us) xs i y c.loop-clause-test.true ∙ ap (λ y. sum_by (rows_by vs) (y ∷ (drop (i + 1) xs))) (sym c.clause-item.is)) (at_drop_more (λ us. results (flat_map (steps_by vs) us)) xs i y c.loop-clause-test.true ∙ ap (λ y. results (flat_map (steps_by vs) (y ∷ (drop (i + 1) xs)))) (sym c.clause-item.is) ∙ results-append (steps_by vs y) (flat_map (steps_by vs) (drop (i + 1) xs))) told.0;
+      value =
+          c.loop-clause.invariant.value
+          ∙ ap (λ cs. c.loop-clause.made ++ cs) (at_drop_more (λ us. flat_map (clauses_by vs) us) xs i y c.loop-clause-test.true ∙ ap (λ y. flat_map (clauses_by vs) (y ∷ (drop (i + 1) xs))) (sym c.clause-item.is))
+          ∙ sym (append_assoc c.loop-clause.made (clauses_by vs y) (flat_map (clauses_by vs) (drop (i + 1) xs)))
+          ∙ ap (λ cs. cs ++ flat_map (clauses_by vs) (drop (i + 1) xs)) (sym (c.in_ok-append.ensures ∙ ap (λ cs. c.loop-clause.made ++ cs) told.1));
+      well_formed = subst (λ cs. IsTrue (list_all (list_all is_fact) cs)) (sym c.in_ok-append.ensures) (list_all-append (list_all is_fact) c.loop-clause.made c.in_ok-left.left ∙ and_from _ _ c.loop-clause.invariant.well_formed c.in_ok-left.ensures.well_formed);
+    }
