@@ -1,0 +1,15 @@
+pub mod Names
+pub mod Faults
+pub mod Declarations
+pub mod Symbols
+pub mod Scopes
+pub mod Tables
+pub mod Bindings
+pub mod NumberTerms
+pub mod Typing
+pub mod Heads
+pub mod Meaning
+pub mod Arguments
+pub mod Contexts
+pub mod Answer
+pub mod Rows
