@@ -1,6 +1,3 @@
-pub mod NameLemmas
-pub mod FaultLemmas
+pub mod StopLemmas
 pub mod ArgumentLemmas
 pub mod BindingLemmas
-pub mod TableLemmas
-pub mod SymbolLemmas

@@ -12,16 +12,16 @@ use Rattle.tff_grammar.specs.declared.trees.Statement.{Statement}
 use Rattle.tff_grammar.specs.Pieces.{bytes_of}
 use Rattle.tff_grammar.specs.Answer.{IsText, IsFirstFault}
 use Rattle.formula_base.specs.declared.problems.Problem.{Problem}
-use Rattle.tff_reader.specs.declared.faults.LaterName.{LaterName}
-use Rattle.tff_reader.specs.declared.faults.LaterName.TheVariants as late
-use Rattle.tff_reader.specs.declared.faults.Later.{Later}
+use Rattle.tff_signature.specs.declared.faults.LaterName.{LaterName}
+use Rattle.tff_signature.specs.declared.faults.LaterName.TheVariants as late
+use Rattle.tff_signature.specs.declared.faults.Later.{Later}
 use Rattle.tff_reader.specs.declared.refusals.RefusedName.{RefusedName}
 use Rattle.tff_reader.specs.declared.refusals.RefusedName.TheVariants as n
 use Rattle.tff_reader.specs.declared.refusals.Refused.{Refused}
 use Rattle.tff_reader.specs.declared.refusals.ReadError.{ReadError}
 use Rattle.tff_reader.specs.declared.refusals.ReadError.TheVariants as errors
-use Rattle.tff_reader.specs.Faults.{Faults}
-use Rattle.tff_reader.specs.Declarations.{phase_2}
+use Rattle.tff_signature.specs.Faults.{Faults}
+use Rattle.tff_signature.specs.Declarations.{phase_2}
 use Rattle.tff_reader.specs.NumberTerms.{phase_4}
 use Rattle.tff_reader.specs.Meaning.{phase_3, problem_of}
 

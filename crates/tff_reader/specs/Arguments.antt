@@ -13,9 +13,9 @@ use Rattle.tff_reader.specs.declared.numbers.Computed.{Computed}
 use Rattle.tff_reader.specs.declared.heads.Wanted.{Wanted}
 use Rattle.tff_reader.specs.declared.terms.TermMeaning.{TermMeaning as ReadMeaning}
 use Rattle.tff_reader.specs.declared.terms.Arguments.{Arguments}
-use Rattle.tff_reader.specs.Names.{name_of}
-use Rattle.tff_reader.specs.Faults.{Faults}
-use Rattle.tff_reader.specs.Symbols.{symbol_number}
+use Rattle.tff_signature.specs.Names.{name_of}
+use Rattle.tff_signature.specs.Faults.{Faults}
+use Rattle.tff_signature.specs.Symbols.{symbol_number}
 use Rattle.tff_reader.specs.Scopes.{Scope}
 use Rattle.tff_reader.specs.Typing.{head_place, head_fault, head_type, arguments, argument_faults, term_faults}
 use Rattle.tff_reader.specs.Meaning.{TermMeaning, scaled, minus_one}

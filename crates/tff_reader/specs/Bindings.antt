@@ -4,7 +4,7 @@ use Rattle.std.specs.Map.{lookup}
 use Rattle.term_base.specs.declared.variables.Variable.{Variable}
 use Rattle.tff_reader.specs.declared.scopes.Binding.{Binding}
 use Rattle.tff_reader.specs.declared.scopes.Scope.{Scope as KeptScope}
-use Rattle.tff_reader.specs.Names.{Name, same_name}
+use Rattle.tff_signature.specs.Names.{Name, same_name}
 use Rattle.tff_reader.specs.Scopes.{Scope, bound_by}
 
 abbrev pub flat : {A : Type 0} → Option (Option A) → Option A

@@ -2,17 +2,17 @@
 use Rattle.std.specs.Prelude.{◌≡◌, ℕ, List, [], ◌++◌, Result, Ok, Err, Some}
 use Rattle.formula_base.specs.declared.formulas.Formula.{Formula}
 use Rattle.tff_grammar.specs.declared.trees.Statement.{Statement}
-use Rattle.tff_reader.specs.declared.faults.Stop.{Stop}
-use Rattle.tff_reader.specs.declared.faults.Stop.TheVariants as stops
+use Rattle.tff_reader.specs.declared.stops.Stop.{Stop}
+use Rattle.tff_reader.specs.declared.stops.Stop.TheVariants as stops
 use Rattle.tff_reader.specs.declared.scopes.Scope.{Scope as KeptScope}
 use Rattle.tff_reader.specs.declared.terms.Context.{Context}
 use Rattle.tff_reader.specs.declared.reader.Formulas.{Formulas}
-use Rattle.tff_reader.specs.Faults.{Faults, first_of}
+use Rattle.tff_reader.specs.Stops.{first_of}
 use Rattle.tff_grammar.specs.declared.trees.Variable.{Variable as WrittenVariable}
-use Rattle.tff_reader.specs.Names.{Name}
+use Rattle.tff_signature.specs.Names.{Name}
 use Rattle.tff_reader.specs.Scopes.{Scope, bind}
 use Rattle.tff_reader.specs.Bindings.{Binds}
-use Rattle.tff_reader.specs.Symbols.{Signature}
+use Rattle.tff_signature.specs.Symbols.{Signature}
 use Rattle.tff_reader.specs.Meaning.{FormulaMeaning, Meaning, members, behind, formulas_of, faults_of, premises_of, conjectures_of, first}
 
 -- the sorts and symbols of a context

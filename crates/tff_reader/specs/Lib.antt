@@ -1,9 +1,5 @@
-pub mod Names
-pub mod Faults
-pub mod Declarations
-pub mod Symbols
+pub mod Stops
 pub mod Scopes
-pub mod Tables
 pub mod Bindings
 pub mod NumberTerms
 pub mod Typing

@@ -36,9 +36,9 @@ use Rattle.tff_grammar.specs.Pieces.{bytes_at}
 use Rattle.tff_reader.specs.declared.numbers.Computed.{Computed}
 use Rattle.tff_reader.specs.declared.numbers.Computed.TheVariants.{Value, Wide}
 use Rattle.tff_reader.specs.declared.heads.Wanted.TheVariants.{Predicate}
-use Rattle.tff_reader.specs.Names.{Name, name_of}
-use Rattle.tff_reader.specs.Faults.{Faults}
-use Rattle.tff_reader.specs.Symbols.{Signature, signature_of, symbol_number}
+use Rattle.tff_signature.specs.Names.{Name, name_of}
+use Rattle.tff_signature.specs.Faults.{Faults}
+use Rattle.tff_signature.specs.Symbols.{Signature, signature_of, symbol_number}
 use Rattle.tff_reader.specs.Scopes.{Scope, bound_by, variables_from, bind}
 use Rattle.tff_reader.specs.NumberTerms.{head_number}
 use Rattle.tff_reader.specs.Typing.{term_faults, relation_faults}

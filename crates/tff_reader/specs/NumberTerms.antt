@@ -16,10 +16,10 @@ use Rattle.tff_grammar.specs.declared.trees.Formula.TheFolds.{fold-Formula}
 use Rattle.tff_grammar.specs.declared.trees.Content.{Content}
 use Rattle.tff_grammar.specs.declared.trees.Content.TheVariants as content
 use Rattle.tff_grammar.specs.declared.trees.Statement.{Statement}
-use Rattle.tff_reader.specs.declared.faults.LaterName.TheVariants.{NonLinear, NumberTooWide}
+use Rattle.tff_signature.specs.declared.faults.LaterName.TheVariants.{NonLinear, NumberTooWide}
 use Rattle.tff_reader.specs.declared.numbers.Computed.{Computed}
 use Rattle.tff_reader.specs.declared.numbers.Computed.TheVariants.{Value, Wide}
-use Rattle.tff_reader.specs.Faults.{Faults, alone}
+use Rattle.tff_signature.specs.Faults.{Faults, alone}
 
 -- ---- the steps of computing a number-term
 

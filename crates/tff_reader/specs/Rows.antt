@@ -1,5 +1,5 @@
 -- Worked rows of the definitions.
-use Rattle.std.specs.Prelude.{◌≡◌, ◌^◌, ◌-◌, pos, negsuc, true, false, [], ◌∷◌, Some, None, codes, refl}
+use Rattle.std.specs.Prelude.{◌≡◌, ◌^◌, ◌-◌, pos, negsuc, [], ◌∷◌, Some, None, refl}
 use Rattle.term_base.specs.declared.symbols.Sort.TheVariants as sorts
 use Rattle.term_base.specs.declared.terms.Term.{Term}
 use Rattle.term_base.specs.declared.terms.Term.TheVariants as term
@@ -7,36 +7,13 @@ use Rattle.formula_base.specs.declared.formulas.Formula.{Formula}
 use Rattle.formula_base.specs.declared.formulas.Formula.TheVariants as g
 use Rattle.tff_grammar.specs.declared.pieces.Operation.TheVariants as o
 use Rattle.tff_grammar.specs.declared.pieces.Link.TheVariants as link
-use Rattle.tff_reader.specs.declared.faults.LaterName.TheVariants.{NonLinear, NumberTooWide, IllTyped}
+use Rattle.tff_signature.specs.declared.faults.LaterName.TheVariants.{NonLinear, NumberTooWide, IllTyped}
 use Rattle.tff_reader.specs.declared.heads.Wanted.TheVariants as wanted
 use Rattle.tff_reader.specs.declared.numbers.Computed.TheVariants.{Value, Wide}
-use Rattle.tff_reader.specs.Names.{quoted_name, by_first_place, number_of}
-use Rattle.tff_reader.specs.Faults.{alone}
-use Rattle.tff_reader.specs.Symbols.{Use, first_uses}
+use Rattle.tff_signature.specs.Faults.{alone}
 use Rattle.tff_reader.specs.NumberTerms.{operated, factor, product_fault}
 use Rattle.tff_reader.specs.Typing.{own_fault, head_fault}
 use Rattle.tff_reader.specs.Meaning.{comparison, linked, scaled}
-
--- `'p'` is p, and `'p q'` keeps its quotes
-quoted_word : quoted_name (codes "'p'") ≡ codes "p"
-quoted_word = refl
-
-quoted_text : quoted_name (codes "'p q'") ≡ codes "'p q'"
-quoted_text = refl
-
--- each name once, by first place
-numbers : by_first_place (codes "q" ∷ codes "p" ∷ codes "q" ∷ []) ≡ codes "q" ∷ codes "p" ∷ []
-numbers = refl
-
-second_number : number_of (codes "q" ∷ codes "p" ∷ []) (codes "p") ≡ 1
-second_number = refl
-
--- the first use of a word counts
-use_of : Use
-use_of = record { name = codes "p"; arity = 1; whole = true }
-
-first_use : first_uses (use_of ∷ record { name = codes "p"; arity = 2; whole = false } ∷ []) ≡ use_of ∷ []
-first_use = refl
 
 -- 2^127 - 1 + 1 and -1 * -2^127 leave the range, -1 * (2^127 - 1) doesn't
 wide_sum : operated o.Sum (Some (Value (pos (2 ^ 127 - 1))) ∷ Some (Value (pos 1)) ∷ []) ≡ Some Wide

@@ -8,7 +8,7 @@ use Rattle.tff_grammar.specs.declared.trees.Sort.{Sort as WrittenSort}
 use Rattle.tff_grammar.specs.declared.trees.Sort.TheVariants as sort
 use Rattle.tff_grammar.specs.declared.trees.Variable.{Variable as WrittenVariable}
 use Rattle.tff_grammar.specs.Pieces.{bytes_at}
-use Rattle.tff_reader.specs.Names.{Name, same_name, name_of, number_of}
+use Rattle.tff_signature.specs.Names.{Name, same_name, name_of, number_of}
 
 -- a name, and the variable that it is bound to
 pub record Bound : Type 0 where

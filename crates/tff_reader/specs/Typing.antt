@@ -15,12 +15,12 @@ use Rattle.tff_grammar.specs.declared.trees.Term.TheOpen.{Term-F}
 use Rattle.tff_grammar.specs.declared.trees.Term.TheFolds.{fold-Term}
 use Rattle.tff_grammar.specs.declared.trees.Term.TheViews.{out-Term}
 use Rattle.tff_grammar.specs.Pieces.{bytes_at}
-use Rattle.tff_reader.specs.declared.faults.LaterName.TheVariants.{IllTyped}
+use Rattle.tff_signature.specs.declared.faults.LaterName.TheVariants.{IllTyped}
 use Rattle.tff_reader.specs.declared.heads.Wanted.{Wanted}
 use Rattle.tff_reader.specs.declared.heads.Wanted.TheVariants as wanted
-use Rattle.tff_reader.specs.Names.{name_of, span_of}
-use Rattle.tff_reader.specs.Faults.{Faults, alone}
-use Rattle.tff_reader.specs.Symbols.{symbol_named}
+use Rattle.tff_signature.specs.Names.{name_of, span_of}
+use Rattle.tff_signature.specs.Faults.{Faults, alone}
+use Rattle.tff_signature.specs.Symbols.{symbol_named}
 use Rattle.tff_reader.specs.Scopes.{Scope, bound_by}
 
 -- ---- the types of heads

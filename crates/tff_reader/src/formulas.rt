@@ -1,18 +1,16 @@
 //! Formulas: their types, and what they mean.
 ghost use Rattle.std.specs.Prelude.{◌≡◌, ◌+◌, [], ◌∷◌, map, length, IfOk, OnOk};
-ghost use Rattle.tff_reader.specs.Faults.{Reads};
+ghost use Rattle.tff_reader.specs.Stops.{Reads};
 ghost use Rattle.tff_reader.specs.Scopes as scopes;
 ghost use Rattle.tff_reader.specs.Bindings.{Binds};
-ghost use Rattle.tff_reader.specs.Tables.{IsNamed};
+ghost use Rattle.tff_signature.specs.Tables.{IsNamed};
 ghost use Rattle.tff_reader.specs.Typing.{term_faults, relation_faults};
 ghost use Rattle.tff_reader.specs.Meaning as spec;
 ghost use Rattle.tff_reader.specs.Contexts.{signature, OnRead, OnReadAll};
 
-use crate::faults::Stop;
 use crate::heads::Wanted;
-use crate::names::{Names, name};
 use crate::scopes::Scope;
-use crate::symbols::sort_number;
+use crate::stops::Stop;
 use crate::terms::{Context, pair};
 use formula_base::Formula;
 use sqlite_items::Items;
@@ -22,6 +20,7 @@ use tff_grammar::{
     BasicSort, Formula as WrittenFormula, Head, Junction, Link, Operation, Quantifier, Relation,
     Sort as WrittenSort, Term as WrittenTerm, Variable as WrittenVariable,
 };
+use tff_signature::{Names, name, sort_number};
 
 /// The number behind a binder's. More than 2^32 binders in a formula count as want of memory.
 fn after(number: u32) -> Result<u32, AllocError>

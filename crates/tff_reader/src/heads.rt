@@ -1,13 +1,12 @@
 //! The types of heads, and what a place asks of a term.
 ghost use Rattle.std.specs.Prelude.{◌≡◌, [], ◌∷◌, drop, IfOk, IfErr};
 ghost use Rattle.tff_reader.specs.Typing as spec;
-ghost use Rattle.tff_reader.specs.Faults.{checked, fault};
+ghost use Rattle.tff_signature.specs.Faults.{checked, fault};
 ghost use Rattle.tff_reader.specs.Heads.{typed};
 
-use crate::faults::{Later, LaterName};
-use crate::names::span;
 use term_base::Sort;
 use tff_grammar::{Head, Operation};
+use tff_signature::{Later, LaterName, span};
 
 /// What a place asks of a term.
 #[derive(Clone, Copy, Debug, PartialEq, Eq)]

@@ -1,17 +1,14 @@
 //! Typing and meaning of the input language: from the bytes of a text to its problem, or to the first fault.
 #![tactic(auto)]
 
-mod declarations;
-mod faults;
 mod formulas;
 mod heads;
-mod names;
 mod numbers;
 mod products;
 mod reader;
 mod refusals;
 mod scopes;
-mod symbols;
+mod stops;
 mod terms;
 #[cfg(test)]
 mod tests;

@@ -1,13 +1,14 @@
 //! The faults of products.
 ghost use Rattle.std.specs.Prelude.{◌≡◌, IfOk, MatchResult};
 ghost use Rattle.tff_reader.specs.NumberTerms as spec;
-ghost use Rattle.tff_reader.specs.Faults.{first_of, Stopped};
+ghost use Rattle.tff_reader.specs.Stops.{first_of, Stopped};
 
-use crate::faults::{Later, LaterName, Stop};
 use crate::numbers::{Computed, head_number};
+use crate::stops::Stop;
 use sqlite_items::Items;
 use std::alloc::{AllocError, Global};
 use tff_grammar::{Content, Formula, Head, Operation, Statement, Term};
+use tff_signature::{Later, LaterName};
 
 /// What a term computes to where it is a number-term, and the first fault of its products.
 #[derive(Clone, Copy, Debug)]
@@ -56,7 +57,7 @@ fn head_fault(head: Head, numbers: &[Option<Computed>]) -> Option<Later>
 }
 
 /// The products of a term.
-#[tactic(auto, using(crate::proofs::FaultLemmas::first_of_both))]
+#[tactic(auto, using(crate::proofs::StopLemmas::first_of_both))]
 fn products_of(alloc: Global, term: &Term) -> Result<Products, AllocError>
     ensures number { IfOk result (λ p. p.number ≡ (spec.products term.now).number) }
     ensures fault { IfOk result (λ p. p.fault ≡ first_of (spec.products term.now).faults) }
@@ -98,7 +99,7 @@ fn check_term(alloc: Global, term: &Term) -> Result<(), Stop>
 }
 
 /// The first fault of a formula's products.
-#[tactic(auto, using(crate::proofs::FaultLemmas::stopped_sooner, crate::proofs::FaultLemmas::stopped_later, crate::proofs::FaultLemmas::stopped_behind))]
+#[tactic(auto, using(crate::proofs::StopLemmas::stopped_sooner, crate::proofs::StopLemmas::stopped_later, crate::proofs::StopLemmas::stopped_behind))]
 fn check_formula(alloc: Global, formula: &Formula) -> Result<(), Stop>
     ensures { Stopped result (spec.product_faults formula.now) }
 {
@@ -125,7 +126,7 @@ fn check_formula(alloc: Global, formula: &Formula) -> Result<(), Stop>
 }
 
 /// The first fault of all products of a file.
-#[tactic(auto, using(crate::proofs::FaultLemmas::stopped_sooner, crate::proofs::FaultLemmas::stopped_later, crate::proofs::FaultLemmas::stopped_behind))]
+#[tactic(auto, using(crate::proofs::StopLemmas::stopped_sooner, crate::proofs::StopLemmas::stopped_later, crate::proofs::StopLemmas::stopped_behind))]
 pub(crate) fn check_products(alloc: Global, statements: &[Statement]) -> Result<(), Stop>
     ensures { Stopped result (spec.phase_4 statements.now) }
 {

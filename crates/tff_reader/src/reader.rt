@@ -4,17 +4,15 @@ ghost use Rattle.tff_grammar.specs.Answer.{IsText};
 ghost use Rattle.formula_base.specs.declared.problems.Problem as the_problem;
 ghost use Rattle.tff_reader.specs.Answer as spec;
 ghost use Rattle.tff_reader.specs.Answer.{IsProblem, Explains};
-ghost use Rattle.tff_reader.specs.Faults.{Reads};
+ghost use Rattle.tff_reader.specs.Stops.{Reads};
 ghost use Rattle.tff_reader.specs.Meaning as meaning;
-ghost use Rattle.tff_reader.specs.Tables.{IsNamed};
+ghost use Rattle.tff_signature.specs.Tables.{IsNamed};
 ghost use Rattle.tff_reader.specs.Contexts.{signature, AreRead};
 
-use crate::declarations::{check_declarations, declarations_of};
-use crate::faults::{Later, LaterName, Stop};
 use crate::products::check_products;
 use crate::refusals::{ReadError, Refused, RefusedName};
 use crate::scopes::Scope;
-use crate::symbols::signature_of;
+use crate::stops::Stop;
 use crate::terms::Context;
 use formula_base::{Formula, Problem};
 use sqlite_items::Items;
@@ -22,6 +20,7 @@ use std::alloc::{AllocError, Global};
 use term_base::Name;
 use tff_grammar::{Content, Fault, FaultName, ParseError, Span, Statement, parse};
 use tff_lexer::{Token, TokenKind};
+use tff_signature::{Later, LaterName, check_declarations, declarations_of, signature_of};
 
 fn early_name(name: FaultName) -> RefusedName
     ensures { result ≡ spec.early_name name }

@@ -1,25 +1,24 @@
 //! Terms and atoms: their types, and what they mean.
 ghost use Rattle.std.specs.Prelude.{◌≡◌, [], ◌∷◌, map, length, IfOk, IfSome, MatchOption};
 ghost use Rattle.tff_grammar.specs.Pieces.{bytes_at};
-ghost use Rattle.tff_reader.specs.Faults.{Reads};
+ghost use Rattle.tff_reader.specs.Stops.{Reads};
 ghost use Rattle.tff_reader.specs.Scopes as scopes;
 ghost use Rattle.tff_reader.specs.Bindings.{Binds};
-ghost use Rattle.tff_reader.specs.Tables.{IsNamed};
+ghost use Rattle.tff_signature.specs.Tables.{IsNamed};
 ghost use Rattle.tff_reader.specs.Heads.{typed};
 ghost use Rattle.tff_reader.specs.Typing as typing;
 ghost use Rattle.tff_reader.specs.Meaning as spec;
 ghost use Rattle.tff_reader.specs.Arguments.{AreMeant, IsMeant, head_faults, pair_of, single_of, applied, operated, combined, scaled_by};
 
-use crate::faults::Stop;
 use crate::heads::{HeadType, Wanted, asked, check_head, check_own, head_place, operation_type};
-use crate::names::{Names, name};
 use crate::numbers::{Computed, head_number};
 use crate::scopes::Scope;
-use crate::symbols::Signature;
+use crate::stops::Stop;
 use sqlite_items::Items;
 use std::alloc::{AllocError, Global};
 use term_base::{Sort, Term};
 use tff_grammar::{Head, Operation, Relation, Span, Term as WrittenTerm};
+use tff_signature::{Names, Signature, name};
 
 /// What formulas are read by: the text, its declared sorts and its symbols.
 #[derive(Drop)]

@@ -1,6 +1,6 @@
 use Rattle.std.proofs.Common.{◌≡◌, map, drop}
 use Rattle.std.specs.List.{flat_map}
-use Rattle.tff_reader.specs.Faults.{first_of}
+use Rattle.tff_reader.specs.Stops.{first_of}
 use Rattle.tff_reader.specs.NumberTerms.{product_faults}
 use Rattle.tff_reader.proofs.products.+check_formula.Given as goal
 

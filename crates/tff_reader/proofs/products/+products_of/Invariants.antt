@@ -1,6 +1,6 @@
 use Rattle.std.proofs.Common.{◌≡◌, map, take}
 use Rattle.std.specs.List.{flat_map}
-use Rattle.tff_reader.specs.Faults.{first_of}
+use Rattle.tff_reader.specs.Stops.{first_of}
 use Rattle.tff_reader.specs.NumberTerms.{products}
 use Rattle.tff_reader.proofs.products.+products_of.Given as goal
 

@@ -1,0 +1,12 @@
+//! Names, declarations and symbols of the input language, and the faults of declarations and binders.
+#![tactic(auto)]
+
+mod declarations;
+mod faults;
+mod names;
+mod symbols;
+
+pub use declarations::{Declared, check_declarations, declarations_of};
+pub use faults::{Later, LaterName};
+pub use names::{Names, name, span};
+pub use symbols::{Signature, signature_of, sort_number, sort_of};
