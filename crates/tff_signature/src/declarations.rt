@@ -3,7 +3,8 @@ ghost use Rattle.std.specs.Prelude.{◌≡◌, ℕ, flat_map, IfOk, OnOk, List};
 ghost use Rattle.std.specs.Cmp.Lexicographic.{pointwise};
 ghost use Rattle.std.specs.Option.{option_copied};
 ghost use Rattle.tff_signature.specs.Declarations as spec;
-ghost use Rattle.tff_signature.specs.Faults.{checked};
+ghost use Rattle.tff_signature.specs.Faults.{checked, fault};
+ghost use Rattle.tff_signature.specs.Names.{span_of};
 ghost use Rattle.tff_signature.specs.Tables.{type_at, or_else, given_to, with_sort, Declares};
 
 use crate::faults::{Later, LaterName};
@@ -22,7 +23,7 @@ pub struct Declared<'a> {
 
 impl<'a> Declared<'a> {
     /// The type of the first declaration of a name.
-    pub fn type_of(&self, name: &[u8]) -> Option<&'a DeclaredType>
+    pub(crate) fn type_of(&self, name: &[u8]) -> Option<&'a DeclaredType>
         ensures { option_copied result ≡ type_at self.now name.now }
     {
         match self.types.get(name) {
@@ -120,6 +121,16 @@ fn is_same_type(text: &[u8], a: &DeclaredType, b: &DeclaredType) -> bool
     }
 }
 
+/// A fault at a word.
+fn fault_at(name: LaterName, word: Word) -> Later
+    ensures { result ≡ fault name (span_of word).start }
+{
+    Later {
+        name,
+        at: span(word).start,
+    }
+}
+
 /// UnknownSort where a sort word is no declared sort.
 fn check_sort(text: &[u8], sorts: &Names, sort: Sort) -> Result<(), Later>
     ensures { result ≡ checked (spec.sort_faults text.now sorts.now sort) }
@@ -129,10 +140,7 @@ fn check_sort(text: &[u8], sorts: &Names, sort: Sort) -> Result<(), Later>
             if sorts.contains(name(text, word)) {
                 return Ok(());
             }
-            Err(Later {
-                name: LaterName::UnknownSort,
-                at: span(word).start,
-            })
+            Err(fault_at(LaterName::UnknownSort, word))
         }
         Sort::Basic(_) | Sort::Truth => Ok(()),
     }
@@ -176,10 +184,7 @@ fn check_first(
             if is_same_type(text, given, first) {
                 return Ok(());
             }
-            Err(Later {
-                name: LaterName::Redeclared,
-                at: span(word).start,
-            })
+            Err(fault_at(LaterName::Redeclared, word))
         }
     }
 }
@@ -230,8 +235,8 @@ pub fn check_declarations(
     declared: &Declared<'_>,
     statements: &[Statement],
 ) -> Result<(), Later>
-    ensures { (ds : List spec.Declaration) → Declares text.now declared.now ds
-        → result ≡ checked (flat_map (λ s. spec.content_faults text.now ds (spec.sort_names text.now ds) s.content) statements.now) }
+    requires { Declares text.now declared.now (spec.declarations statements.now) }
+    ensures { result ≡ checked (spec.phase_2 text.now statements.now) }
 {
     for statement in statements {
         match &statement.content {

@@ -33,7 +33,7 @@ struct Source<'t, 'd, 's> {
 }
 
 /// The sort that is written, by its number among the declared ones. A number past 2^32 - 1 counts as want of memory.
-pub fn sort_of(text: &[u8], sorts: &Names, sort: WrittenSort) -> Result<Sort, AllocError>
+fn sort_of(text: &[u8], sorts: &Names, sort: WrittenSort) -> Result<Sort, AllocError>
     ensures { IfOk result (λ s. s ≡ spec.sort_of text.now sorts.now sort) }
 {
     match sort {
@@ -219,9 +219,9 @@ pub fn signature_of(
     declared: &Declared<'_>,
     statements: &[Statement],
 ) -> Result<Signature, AllocError>
+    requires { Declares text.now declared.now (declarations statements.now) }
     ensures named { IfOk result IsNamed }
-    ensures symbols { Declares text.now declared.now (declarations statements.now)
-        → IfOk result (λ s. s.symbols ≡ (spec.signature_of text.now statements.now).symbols) }
+    ensures symbols { IfOk result (λ s. s.symbols ≡ (spec.signature_of text.now statements.now).symbols) }
 {
     let source = Source {
         alloc,
