@@ -184,13 +184,13 @@ module _ (text : List ℕ) (sorts : List Name) where
 
   mutual
     unit_at : (n : ℕ) (u : UnitTree) (rest : Leveleds) (fs : Faults) → AreAt fs (words rest) → AreAt (faults (unit_of u) ++ fs) (words (unit_text n u rest))
-    unit_at n (negated u) rest fs h = rw fold-Not Faults (binder_faults_step text sorts) (unit_of u) (unit_at (n + 1) u rest fs h)
+    unit_at n (negated u) rest fs h = rw (fold-Not Faults (binder_faults_step text sorts) (unit_of u)) (unit_at (n + 1) u rest fs h)
     unit_at n (quantified q v more u) rest fs h =
         rw (fold-Quantified Faults (binder_faults_step text sorts) q (variable_of v ∷ variables_of more) (unit_of u), append_assoc, append_assoc)
         (variable_at (n + 1) v _ _ (variables_at (n + 1) more _ _ (unit_at (n + 1) u rest fs h)))
     unit_at n (grouped g) rest fs h = formula_at (n + 1) g _ fs h
-    unit_at n (truth_value b) rest fs h = rw fold-Constant Faults (binder_faults_step text sorts) b h
-    unit_at n (atomic t s) rest fs h = rw atom_faults (term_of t) s (term_passed n t (second_text n s rest) fs (second_passed n s rest fs h))
+    unit_at n (truth_value b) rest fs h = rw (fold-Constant Faults (binder_faults_step text sorts) b) h
+    unit_at n (atomic t s) rest fs h = rw (atom_faults (term_of t) s) (term_passed n t (second_text n s rest) fs (second_passed n s rest fs h))
 
     formula_at : (n : ℕ) (g : FormulaTree) (rest : Leveleds) (fs : Faults) → AreAt fs (words rest) → AreAt (faults (formula_of g) ++ fs) (words (formula_text n g rest))
     formula_at n (formula u tail) rest fs h =
@@ -243,10 +243,10 @@ faults_rise (f ∷ fs) (p ∷ ps) from (inl (e, h)) r = rw e (r.0, faults_rise f
 faults_rise (f ∷ fs) (p ∷ ps) from (inr h) r = let x = r.0 in faults_rise (f ∷ fs) ps from h (rise_sooner from (p + 1) ps (omega (arith, x)) r.1)
 
 all_behind : (from : ℕ) (fs : Faults) → FaultsRise from fs → All (λ g. from ≤ g.at) fs
-all_behind from [] h = All-nil _
+all_behind from [] h = All-nil (λ g. from ≤ g.at)
 all_behind from (f ∷ fs) h =
     let x = h.0 in
-    All-cons _ f fs x (all_behind from fs (sooner from (f.at + 1) fs (omega (arith, x)) h.1))
+    All-cons (λ g. from ≤ g.at) f fs x (all_behind from fs (sooner from (f.at + 1) fs (omega (arith, x)) h.1))
   where
     sooner : (a b : ℕ) (gs : Faults) → a ≤ b → FaultsRise b gs → FaultsRise a gs
     sooner a b [] l h = tt
@@ -254,7 +254,9 @@ all_behind from (f ∷ fs) h =
 
 pairs : (from : ℕ) (fs : Faults) → FaultsRise from fs → AllPairs (λ f g. f.at < g.at) fs
 pairs from [] h = λ i j d l k. absurd (omega (arith, k))
-pairs from (f ∷ fs) h = AllPairs-cons (λ f g. f.at < g.at) f fs (all_behind (f.at + 1) fs h.1) (pairs (f.at + 1) fs h.1)
+pairs from (f ∷ fs) h =
+    let all = all_behind (f.at + 1) fs h.1 in
+    AllPairs-cons (λ f g. f.at < g.at) f fs (λ k d l. let x = all k d l in omega (arith, x)) (pairs (f.at + 1) fs h.1)
 
 statements_at : (bytes : List ℕ) (sorts : List Name) (ds : List Declaration) (statements : List Statement) (ps : List Piece) (file : FileTree)
     → statements ≡ file_of file → pieces_of (file_text file) ≡ ps → AreAt (flat_map (λ s. content_faults bytes ds sorts s.content) statements) (word_places ps)

@@ -32,14 +32,29 @@ impl<'a> Declared<'a> {
         }
     }
 
+    /// Keeps the type of a name that has none yet.
+    fn add_type(
+        &mut self,
+        alloc: Global,
+        name: &[u8],
+        given: &'a DeclaredType,
+    ) -> Result<(), AllocError>
+        ensures types { OnOk result ((n : List ℕ) → type_at self.new n ≡ or_else (type_at self.old n) (given_to name.now given.now n)) }
+        ensures sorts { self.new.sorts ≡ self.old.sorts }
+    {
+        if self.types.contains_key(name) {
+            return Ok(());
+        }
+        self.types.insert(Vec::from_slice(alloc, name)?, given)?;
+        Ok(())
+    }
+
     /// Adds a declaration.
     fn add(&mut self, alloc: Global, name: &[u8], given: &'a DeclaredType) -> Result<(), AllocError>
         ensures types { OnOk result ((n : List ℕ) → type_at self.new n ≡ or_else (type_at self.old n) (given_to name.now given.now n)) }
         ensures sorts { OnOk result (self.new.sorts ≡ with_sort given.now name.now self.old.sorts) }
     {
-        if !self.types.contains_key(name) {
-            self.types.insert(Vec::from_slice(alloc, name)?, given)?;
-        }
+        self.add_type(alloc, name, given)?;
         match given {
             DeclaredType::OfTypes => self.sorts.add(alloc, name),
             DeclaredType::Function(_, _) => Ok(()),
@@ -244,9 +259,8 @@ pub fn check_declarations(
                 check_first(text, *word, given, declared.type_of(name(text, *word)))?;
                 check_type(text, &declared.sorts, given)?;
             }
-            Content::Premise(formula) | Content::Conjecture(formula) => {
-                check_binders(text, &declared.sorts, formula)?;
-            }
+            Content::Premise(formula) => check_binders(text, &declared.sorts, formula)?,
+            Content::Conjecture(formula) => check_binders(text, &declared.sorts, formula)?,
         }
     }
     Ok(())

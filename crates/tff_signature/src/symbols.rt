@@ -107,20 +107,41 @@ impl Signature {
         self.symbols.push(symbol)
     }
 
+    /// Adds the word of a head, where it is one.
+    fn add_head(
+        &mut self,
+        source: &Source<'_, '_, '_>,
+        head: Head,
+        arity: usize,
+        whole: bool,
+    ) -> Result<(), AllocError>
+        requires { IsNamed self.old }
+        ensures named { OnOk result (IsNamed self.new) }
+        ensures symbols { (ds : List Declaration) → Declares source.now.text.now source.now.declared.now ds
+            → OnOk result (self.new.symbols ≡ fold (add_symbol source.now.text.now ds) self.old.symbols (spec.head_uses source.now.text.now head arity whole)) }
+    {
+        match head {
+            Head::Word(word) => self.add_use(source, word, arity, whole),
+            Head::Operation(_, _) => Ok(()),
+        }
+    }
+
     /// Adds the words of a term, or of a whole atomic formula that has the form of one.
     fn add_term(
         &mut self,
         source: &Source<'_, '_, '_>,
         term: &Term,
         whole: bool,
-    ) -> Result<(), AllocError> {
+    ) -> Result<(), AllocError>
+        requires { IsNamed self.old }
+        ensures named { OnOk result (IsNamed self.new) }
+        ensures symbols { (ds : List Declaration) → Declares source.now.text.now source.now.declared.now ds
+            → OnOk result (self.new.symbols ≡ fold (add_symbol source.now.text.now ds) self.old.symbols (spec.term_uses source.now.text.now term.now whole)) }
+    {
         match term {
             Term::Variable(_) | Term::Numeral(_) => Ok(()),
             Term::Apply(head, args) => {
-                match head {
-                    Head::Word(word) => self.add_use(source, *word, args.len(), whole)?,
-                    Head::Operation(_, _) => {}
-                }
+                self.add_head(source, *head, args.len(), whole)?;
                 for arg in args.as_slice() {
                     self.add_term(source, arg, false)?;
                 }
