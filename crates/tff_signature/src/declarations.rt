@@ -1,11 +1,11 @@
 //! Declarations, and the faults of declarations and binders.
-ghost use Rattle.std.specs.Prelude.{◌≡◌, ℕ, flat_map, IfOk, OnOk, List};
+ghost use Rattle.std.specs.Prelude.{◌≡◌, ◌++◌, ℕ, flat_map, IfOk, OnOk, List};
 ghost use Rattle.std.specs.Cmp.Lexicographic.{pointwise};
 ghost use Rattle.std.specs.Option.{option_copied};
 ghost use Rattle.tff_signature.specs.Declarations as spec;
 ghost use Rattle.tff_signature.specs.Faults.{checked, fault};
 ghost use Rattle.tff_signature.specs.Names.{span_of};
-ghost use Rattle.tff_signature.specs.Tables.{type_at, or_else, given_to, with_sort, Declares};
+ghost use Rattle.tff_signature.specs.Tables.{type_at, or_else, given_to, with_sort, listed, Declares};
 
 use crate::faults::{Later, LaterName};
 use crate::names::{Names, name, span};
@@ -60,6 +60,22 @@ impl<'a> Declared<'a> {
             DeclaredType::Function(_, _) => Ok(()),
         }
     }
+
+    /// Adds what a statement declares.
+    fn add_content(
+        &mut self,
+        alloc: Global,
+        text: &[u8],
+        content: &'a Content,
+    ) -> Result<(), AllocError>
+        ensures { (ds : List spec.Declaration) → Declares text.now self.old ds
+            → OnOk result (Declares text.now self.new (ds ++ listed (spec.declared_in content.now))) }
+    {
+        match content {
+            Content::Declaration(word, given) => self.add(alloc, name(text, *word), given),
+            Content::Premise(_) | Content::Conjecture(_) => Ok(()),
+        }
+    }
 }
 
 /// What the statements declare.
@@ -75,10 +91,7 @@ pub fn declarations_of<'a>(
         sorts: Names::new(alloc),
     };
     for statement in statements {
-        match &statement.content {
-            Content::Declaration(word, given) => declared.add(alloc, name(text, *word), given)?,
-            Content::Premise(_) | Content::Conjecture(_) => {}
-        }
+        declared.add_content(alloc, text, &statement.content)?;
     }
     Ok(declared)
 }
@@ -243,8 +256,23 @@ fn check_binders(text: &[u8], sorts: &Names, formula: &Formula) -> Result<(), La
     }
 }
 
-/// The first fault of the declarations and binders of a file.
+/// The first fault of a declaration, or of a formula's binders.
 #[tactic(auto, using(crate::proofs::FaultLemmas::checked_ok, crate::proofs::FaultLemmas::checked_err))]
+fn check_content(text: &[u8], declared: &Declared<'_>, content: &Content) -> Result<(), Later>
+    ensures { (ds : List spec.Declaration) → Declares text.now declared.now ds
+        → result ≡ checked (spec.content_faults text.now ds (spec.sort_names text.now ds) content.now) }
+{
+    match content {
+        Content::Declaration(word, given) => {
+            check_first(text, *word, given, declared.type_of(name(text, *word)))?;
+            check_type(text, &declared.sorts, given)
+        }
+        Content::Premise(formula) => check_binders(text, &declared.sorts, formula),
+        Content::Conjecture(formula) => check_binders(text, &declared.sorts, formula),
+    }
+}
+
+/// The first fault of the declarations and binders of a file.
 pub fn check_declarations(
     text: &[u8],
     declared: &Declared<'_>,
@@ -254,14 +282,7 @@ pub fn check_declarations(
     ensures { result ≡ checked (spec.phase_2 text.now statements.now) }
 {
     for statement in statements {
-        match &statement.content {
-            Content::Declaration(word, given) => {
-                check_first(text, *word, given, declared.type_of(name(text, *word)))?;
-                check_type(text, &declared.sorts, given)?;
-            }
-            Content::Premise(formula) => check_binders(text, &declared.sorts, formula)?,
-            Content::Conjecture(formula) => check_binders(text, &declared.sorts, formula)?,
-        }
+        check_content(text, declared, &statement.content)?;
     }
     Ok(())
 }

@@ -14,7 +14,9 @@ fn symbols(rt: HostRuntime) -> Result<(), Fail> {
     check_declarations(text, &declared, statements.as_slice()).expect(&rt, "no fault");
     assert_eq!(rt; declared.sorts.len(), 1);
     assert_eq!(rt; sort_number(&declared.sorts, b"s"), Ok(0));
-    let signature = signature_of(rt.alloc(), text, &declared, statements.as_slice()).expect(&rt, "memory");
+    let signature = signature_of(rt.alloc(), text, &declared, statements.as_slice()).expect(
+        &rt, "memory",
+    );
     assert_eq!(rt; signature.symbols.len(), 3);
     assert_eq!(rt; signature.number_of(b"c"), 1);
     let Some(f) = signature.symbol_named(b"f") else {

@@ -1,15 +1,12 @@
-use Rattle.std.proofs.Common.{◌≡◌, ℕ, ◌<◌, length, subst, sym, ap, ◌∙◌, arith}
-use Rattle.tff_signature.specs.Declarations.{declared_in}
-use Rattle.tff_signature.proofs.TableLemmas.{declares_next, declares_still}
+use Rattle.std.proofs.Common.{subst, take, arith}
+use Rattle.tff_signature.specs.Declarations.{declarations}
+use Rattle.tff_signature.specs.Tables.{Declares}
+use Rattle.tff_signature.proofs.TableLemmas.{declarations_next}
 use Rattle.tff_signature.proofs.declarations.declarations_of.Goals as goal
-use Rattle.tff_signature.proofs.declarations.declarations_of.Goals.{in-Declaration+in_ok-add-in-Declaration, in-Premise-1, in-Conjecture-1}
 
 pub loop-statement-preserved : goal.loop-statement-preserved
 loop-statement-preserved c =
-    let below : c.loop-statement.statement-index < length c.args.statements.now = omega arith in
-    elim c.match-statement.branch [
-      in-Declaration+in_ok-add-in-Declaration w ↦
-        let a = w.in-Declaration.is in let b = w.in_ok-add-in-Declaration.ensures in let e = w.name.ensures in let f = w.declared-is in ?
-      | in-Premise-1 w ↦ let f = w.declared-is in ?
-      | in-Conjecture-1 w ↦ ?
-    ]
+    let i = c.loop-statement.statement-index in
+    let statements = c.args.statements.now in
+    subst (λ ds. Declares c.args.text.now c.add_content.new.self ds) (declarations_next statements i c.statement-item.result (omega arith) c.statement-item.is)
+    (c.in_ok-add_content.ensures (declarations (take i statements)) c.loop-statement.invariant)
