@@ -5,5 +5,6 @@ pub mod FormulaFolds
 pub mod TableLemmas
 pub mod SymbolsEqual
 pub mod SymbolLemmas
-pub mod WordPlaces
+pub mod TokenPlaces
+pub mod FaultOrder
 pub mod FaultPlaces

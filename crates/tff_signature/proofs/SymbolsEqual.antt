@@ -1,5 +1,5 @@
 -- Symbols with one name, one list of argument sorts and one result are one.
-use Rattle.std.proofs.Common.{◌≡◌, List, refl, sym, ap, ◌∙◌}
+use Rattle.std.proofs.Common.{◌≡◌, List, sym, ap, ◌∙◌}
 use Rattle.std.proofs.Math.Path.{Cosingl, contract'}
 use Rattle.term_base.specs.declared.symbols.Sort.{Sort}
 use Rattle.term_base.specs.declared.symbols.Class.{Class}

@@ -24,7 +24,7 @@ use Rattle.tff_grammar.specs.declared.trees.Content.{Content}
 use Rattle.tff_grammar.specs.declared.trees.Content.TheVariants as content
 use Rattle.tff_grammar.specs.declared.trees.Statement.{Statement}
 use Rattle.tff_signature.specs.Names.{Name, name_of, is_among, number_of}
-use Rattle.tff_signature.specs.Declarations.{Declaration, declarations, declared_type, sort_names}
+use Rattle.tff_signature.specs.Declarations.{declarations, declared_type, sort_names}
 
 -- ---- the places of words
 

@@ -1,5 +1,5 @@
 //! The symbols of a file, in the order of their first places.
-ghost use Rattle.std.specs.Prelude.{◌≡◌, ℕ, List, map, fold, IfOk, OnOk};
+ghost use Rattle.std.specs.Prelude.{◌≡◌, ◌≤◌, ◌^◌, ℕ, List, map, fold, IfOk, OnOk, OnErr};
 ghost use Rattle.std.specs.Option.{option_copied};
 ghost use Rattle.tff_signature.specs.Names.{number_of};
 ghost use Rattle.tff_signature.specs.Declarations.{Declaration, declarations};
@@ -44,9 +44,10 @@ fn sort_of(text: &[u8], sorts: &Names, sort: WrittenSort) -> Result<Sort, AllocE
     }
 }
 
-/// The number of a declared sort.
+/// The number of a declared sort. One past 2^32 - 1 counts as want of memory; nothing else fails.
 pub fn sort_number(sorts: &Names, name: &[u8]) -> Result<u32, AllocError>
-    ensures { IfOk result (λ n. n ≡ number_of sorts.now name.now) }
+    ensures ok { IfOk result (λ n. n ≡ number_of sorts.now name.now) }
+    ensures wide { OnErr result (2 ^ 32 ≤ number_of sorts.now name.now) }
 {
     let number = match sorts.number(name) {
         Some(number) => number,
@@ -233,7 +234,7 @@ fn used_symbol(alloc: Global, name: &[u8], arity: usize, whole: bool) -> Result<
     Ok(Symbol::new(Name::from_bytes(alloc, name)?, sorts, sort))
 }
 
-/// The symbols of a file.
+/// The symbols of a file. More than 2^32 declared sorts count as want of memory.
 pub fn signature_of(
     alloc: Global,
     text: &[u8],

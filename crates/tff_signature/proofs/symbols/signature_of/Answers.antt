@@ -1,4 +1,4 @@
-use Rattle.std.proofs.Common.{◌≡◌, [], fold, sym, ap, ◌∙◌, arith}
+use Rattle.std.proofs.Common.{[], fold, sym, ap, ◌∙◌, arith}
 use Rattle.std.proofs.lemmas.List.{drop_all}
 use Rattle.tff_signature.specs.Declarations.{declarations}
 use Rattle.tff_signature.specs.Symbols.{uses}

@@ -1,5 +1,3 @@
-use Rattle.std.proofs.Common.{◌≡◌, List, ℕ, map, sym, ap, ◌∙◌}
-use Rattle.tff_signature.specs.Names.{add_name}
 use Rattle.tff_signature.proofs.NameLemmas.{add_is}
 use Rattle.tff_signature.proofs.names.Names.add.Goals as goal
 

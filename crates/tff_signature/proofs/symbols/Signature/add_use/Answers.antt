@@ -1,4 +1,4 @@
-use Rattle.std.proofs.Common.{◌≡◌, ◌∷◌, ◌++◌, [], List, Some, None, sym, ap, ◌∙◌, subst, OnOk}
+use Rattle.std.proofs.Common.{◌≡◌, List, Some, sym, ap, ◌∙◌, subst, OnOk}
 use Rattle.std.specs.Option.{option_copied}
 use Rattle.term_base.specs.declared.symbols.Symbol.{Symbol}
 use Rattle.tff_grammar.specs.declared.trees.Sort.{Sort as WrittenSort}
