@@ -1,14 +1,11 @@
 -- The faults of declarations and binders stand at words, in the order of the text.
-use Rattle.std.proofs.Common.{◌≡◌, ℕ, ◌+◌, ◌≤◌, ◌<◌, Bool, true, false, List, [], ◌∷◌, ◌++◌, map, refl, arith, append_assoc, subst, ◌⊎◌, inl, inr}
+use Rattle.std.proofs.Common.{◌≡◌, ℕ, ◌+◌, ◌<◌, Bool, true, false, List, [], ◌∷◌, ◌++◌, map, refl, append_assoc, inl}
 use Rattle.std.specs.Prelude.{Option, Some, None, All, if◌then◌else◌}
 use Rattle.std.specs.List.{flat_map, AllPairs}
 use Rattle.std.proofs.lemmas.List.{append-nil}
-use Rattle.std.proofs.lemmas.List.Elements.{All-nil, All-cons}
-use Rattle.std.proofs.lemmas.List.Kept.{AllPairs-cons}
 use Rattle.tff_lexer.specs.Blanks.{skipped_length}
 use Rattle.tff_grammar.specs.declared.pieces.Junction.{Junction}
 use Rattle.tff_grammar.specs.declared.pieces.Piece.{Piece}
-use Rattle.tff_grammar.specs.declared.pieces.Piece.TheVariants as piece
 use Rattle.tff_grammar.specs.declared.trees.DeclaredType.{DeclaredType}
 use Rattle.tff_grammar.specs.declared.trees.Term.{Term}
 use Rattle.tff_grammar.specs.declared.trees.Formula.{Formula}
