@@ -1,0 +1,17 @@
+//! Typing and meaning of the input language: from the bytes of a text to its problem, or to the first fault.
+#![tactic(auto)]
+
+mod formulas;
+mod heads;
+mod numbers;
+mod products;
+mod reader;
+mod refusals;
+mod scopes;
+mod stops;
+mod terms;
+#[cfg(test)]
+mod tests;
+
+pub use reader::read;
+pub use refusals::{ReadError, Refused, RefusedName};

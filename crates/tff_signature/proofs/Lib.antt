@@ -1,0 +1,10 @@
+pub mod EntryLemmas
+pub mod NameLemmas
+pub mod FaultLemmas
+pub mod FormulaFolds
+pub mod TableLemmas
+pub mod SymbolsEqual
+pub mod SymbolLemmas
+pub mod TokenPlaces
+pub mod FaultOrder
+pub mod FaultPlaces
