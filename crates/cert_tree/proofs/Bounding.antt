@@ -1,9 +1,9 @@
 -- The children of Least, bound by bound.
-use Rattle.std.specs.Prelude.{◌≡◌, ℕ, zero, suc, ◌<◌, ◌≤◌, ◌+◌, ◌-◌, ◌==◌, ◌⊎◌, ℤ, pos, negsuc, ◌≤ℤ◌, Bool, true, false, cond, not, ◌&&◌, ◌||◌, nat_le, is_some, int_le, int_lt, IsTrue, IfSome, option_map, unsigned_abs, length, get_or, take, drop, map, List, [], ◌∷◌, ◌++◌, Option, Some, None}
+use Rattle.std.specs.Prelude.{◌≡◌, ℕ, zero, suc, ◌<◌, ◌≤◌, ◌+◌, ◌-◌, ◌==◌, ◌⊎◌, ℤ, pos, negsuc, ◌≤ℤ◌, Bool, true, false, cond, not, ◌&&◌, ◌||◌, nat_le, is_some, int_le, int_lt, IsTrue, IfSome, option_map, length, get_or, take, drop, map, List, [], ◌∷◌, ◌++◌, Option, Some, None}
 use Rattle.std.specs.List.{list_all, list_any, filter_map, flat_map, cons_option}
 use Rattle.std.proofs.Common.{refl, sym, ◌∙◌, ap, subst, arith, inl, inr}
 use Rattle.std.proofs.lemmas.Int.{ints}
-use Rattle.std.proofs.lemmas.Bool.{cond_both, cases_Bool, and_parts, and_from, leb-true, eqb-true, eqb-false, true≢false, false≢true}
+use Rattle.std.proofs.lemmas.Bool.{cases_Bool, leb-true, eqb-true, eqb-false, true≢false, false≢true}
 use Rattle.std.proofs.Math.Dec.{leb-zero, leb-suc-zero, leb-suc-suc}
 use Rattle.std.proofs.lemmas.List.{at_drop_more, length-take-le, length-map, length-drop, take-map, drop-map, drop-drop, drop_more, drop_all}
 use Rattle.lin_base.specs.declared.sums.Lin.{Lin}
@@ -20,7 +20,7 @@ use Rattle.cert_tree.specs.Counting.{count_from, numbers_below, is_free}
 use Rattle.cert_tree.specs.Narrow.{if_narrow}
 use Rattle.cert_tree.specs.Points.{period, period_steps}
 use Rattle.cert_tree.specs.Bounds.{bound_of}
-use Rattle.cert_tree.specs.Children.{Bound, lower_bound, bound_steps_of, bound_children, bound_steps, point, point_steps, far_child, far_child_steps, far_children, far_steps, least_children, least_steps, lower_bounds, children_by, steps_by}
+use Rattle.cert_tree.specs.Children.{Bound, lower_bound, bound_steps_of, bound_children, bound_steps, point, point_steps, far_child, far_child_steps, far_children, far_steps, least_children, lower_bounds, children_by, steps_by}
 use Rattle.cert_tree.specs.Leasts.{is_lower_bound, count_within, is_count, points_stand, taken, then_rest, bound_stands, bounds_stand}
 use Rattle.cert_tree.specs.Stands.{Node, each_stands, numbered_stand, least_stands}
 use Rattle.cert_tree.proofs.Narrow.{is_narrow-append}

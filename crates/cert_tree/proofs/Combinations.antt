@@ -1,5 +1,5 @@
 -- A combination, part by part.
-use Rattle.std.specs.Prelude.{◌≡◌, ℕ, ℤ, pos, ◌<◌, ◌+◌, Bool, true, false, cond, ◌&&◌, IsTrue, is_none, length, get_or, drop, List, [], ◌∷◌, ◌++◌, Option, Some, None}
+use Rattle.std.specs.Prelude.{◌≡◌, ℕ, ℤ, pos, ◌<◌, ◌+◌, Bool, true, false, cond, ◌&&◌, length, get_or, drop, List, ◌∷◌, ◌++◌, Option, Some, None}
 use Rattle.std.proofs.Common.{refl, sym, ◌∙◌, ap}
 use Rattle.std.proofs.lemmas.List.{at_drop_more}
 use Rattle.lin_base.specs.declared.sums.Lin.{Lin}

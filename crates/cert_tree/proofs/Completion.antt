@@ -1,9 +1,9 @@
 -- Complete, literal by literal.
-use Rattle.std.specs.Prelude.{◌≡◌, ℕ, zero, suc, ◌<◌, ◌+◌, ◌-◌, ℤ, pos, negsuc, ◌≤ℤ◌, ◌<ℤ◌, ◌*ℤ◌, Bool, true, false, cond, not, ◌&&◌, int_le, int_lt, IsTrue, IfSome, IfOk, option_map, unsigned_abs, Result, Ok, Err, length, get_or, drop, map, List, [], ◌∷◌, ◌++◌, Option, Some, None, if◌then◌else◌}
+use Rattle.std.specs.Prelude.{◌≡◌, ℕ, suc, ◌<◌, ◌+◌, ◌-◌, ℤ, pos, negsuc, ◌≤ℤ◌, ◌*ℤ◌, Bool, true, false, cond, IsTrue, IfSome, IfOk, option_map, unsigned_abs, Result, Ok, Err, length, get_or, drop, map, List, [], ◌∷◌, ◌++◌, Option, Some, None, if◌then◌else◌}
 use Rattle.std.specs.List.{list_all, list_any, filter_map, flat_map, cons_option}
 use Rattle.std.proofs.Common.{refl, sym, ◌∙◌, ap, subst, arith, add-one, inl, inr}
 use Rattle.std.proofs.lemmas.Int.{ints}
-use Rattle.std.proofs.lemmas.Bool.{cond_both, cases_Bool, and_parts, and_from, not-true}
+use Rattle.std.proofs.lemmas.Bool.{cond_both, cases_Bool, and_parts, and_from}
 use Rattle.std.proofs.lemmas.List.{at_drop_more, map-append}
 use Rattle.std.proofs.lemmas.Simd.{map-map}
 use Rattle.std.proofs.lemmas.List.Folds.{list_all-append}
@@ -14,7 +14,7 @@ use Rattle.lin_base.specs.declared.wides.Wide.{Wide}
 use Rattle.lin_base.specs.Whole.{is_zero, is_positive}
 use Rattle.lin_base.specs.Fact.{is_fact, is_lin}
 use Rattle.lin_base.specs.Sum.{coef, occurs, without, negated, add_number, above}
-use Rattle.lin_base.proofs.Ring.{le_in, mul_positive}
+use Rattle.lin_base.proofs.Ring.{mul_positive}
 use Rattle.lin_base.proofs.WellFormed.{is_lin-without, is_lin-add_number}
 use Rattle.cert_tree.specs.declared.certs.Row.TheVariants.{Low}
 use Rattle.cert_tree.specs.declared.sums.Side.{Side as Parts}

@@ -1,6 +1,6 @@
 -- What a proof about sums that are formed one after the other wants.
-use Rattle.std.specs.Prelude.{◌≡◌, ℤ, pos, negsuc, ◌≤ℤ◌, int_le, ◌&&◌, true, IsTrue, IfOk, IfSome, List, Option, Some, None, Result, Ok, Err}
-use Rattle.std.proofs.Common.{refl, sym, ◌∙◌}
+use Rattle.std.specs.Prelude.{◌≡◌, ℤ, pos, negsuc, ◌≤ℤ◌, int_le, ◌&&◌, true, IsTrue, IfOk, IfSome, List, Option, Result, Ok, Err}
+use Rattle.std.proofs.Common.{refl}
 use Rattle.std.specs.declared.alloc.AllocError.{AllocError}
 use Rattle.std.proofs.lemmas.Grind.{common_steps}
 use Rattle.std.proofs.lemmas.Int.{to_z-of_z}
@@ -9,8 +9,8 @@ use Rattle.lin_base.specs.declared.wides.Wide.{Wide}
 use Rattle.lin_base.specs.declared.wides.ArithmeticError.{ArithmeticError}
 use Rattle.lin_base.specs.declared.wides.ArithmeticError.TheVariants.{Memory, Wide as TooWide}
 use Rattle.lin_base.specs.Fact.{is_lin}
-use Rattle.lin_base.specs.Sum.{negated, add_number}
-use Rattle.lin_base.specs.Steps.{Forms, first_wide, is_narrow}
+use Rattle.lin_base.specs.Sum.{negated}
+use Rattle.lin_base.specs.Steps.{Forms}
 use Rattle.std.proofs.lemmas.Bool.{and_from}
 use Rattle.lin_base.proofs.Ring.{le_in}
 use Rattle.lin_base.proofs.Forming.{first_wide-append_none, first_wide-append_some}

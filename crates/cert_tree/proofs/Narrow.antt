@@ -1,8 +1,8 @@
 -- Steps that stay in the range, one after the other.
-use Rattle.std.specs.Prelude.{◌≡◌, Bool, true, false, not, cond, ◌&&◌, IsTrue, is_none, List, [], ◌∷◌, ◌++◌, Some, None}
+use Rattle.std.specs.Prelude.{◌≡◌, Bool, true, false, not, cond, ◌&&◌, IsTrue, is_none, List, [], ◌∷◌, ◌++◌, Some}
 use Rattle.std.specs.List.{flat_map, AllByRecursion}
 use Rattle.std.proofs.Common.{refl, sym, ◌∙◌}
-use Rattle.std.proofs.lemmas.Bool.{and_parts, cond_both}
+use Rattle.std.proofs.lemmas.Bool.{and_parts}
 use Rattle.lin_base.specs.declared.wides.Wide.{Wide}
 use Rattle.lin_base.specs.Whole.{is_in_range}
 use Rattle.lin_base.specs.Steps.{is_narrow, result_of, first_wide}

@@ -1,5 +1,5 @@
 -- When a node stands, by what it is.
-use Rattle.std.specs.Prelude.{◌≡◌, ℕ, ℤ, pos, false, ◌&&◌, int_le, length, List, [], ◌∷◌, ◌++◌, map, slice_get}
+use Rattle.std.specs.Prelude.{◌≡◌, ℕ, ℤ, pos, ◌&&◌, int_le, length, List, [], ◌∷◌, ◌++◌, map, slice_get}
 use Rattle.std.proofs.Common.{ap}
 use Rattle.lin_base.specs.declared.sums.Lin.{Lin}
 use Rattle.lin_base.specs.declared.facts.Fact.{Fact}
@@ -12,7 +12,7 @@ use Rattle.cert_tree.specs.declared.certs.Tree.TheOpen.{Case, Combine, Cut, Bran
 use Rattle.cert_tree.specs.declared.certs.Tree.TheFolds.{fold-roll-Tree}
 use Rattle.cert_tree.specs.declared.certs.Tree.TheViews.{roll-Tree}
 use Rattle.cert_tree.specs.Counting.{is_free, is_over_free}
-use Rattle.cert_tree.specs.Narrow.{some_and, option_then, if_narrow}
+use Rattle.cert_tree.specs.Narrow.{some_and, option_then}
 use Rattle.cert_tree.specs.Children.{with_each, combination, cut_of, branch_facts, residue_children, residues_steps, solve_child, least_children, least_steps}
 use Rattle.cert_tree.specs.Stands.{Node, each_stands, is_open_case, node_stands, tree_stands}
 

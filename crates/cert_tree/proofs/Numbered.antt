@@ -1,7 +1,7 @@
 -- Children that are numbered, one after the other.
-use Rattle.std.specs.Prelude.{◌≡◌, ℕ, zero, suc, ◌<◌, ◌+◌, ◌-◌, ◌^◌, nat_lt, ℤ, pos, negsuc, ◌≤ℤ◌, ◌-ℤ◌, Bool, true, false, cond, ◌&&◌, int_le, IsTrue, is_none, length, get_or, drop, map, List, [], ◌∷◌, ◌++◌, Option, Some, None}
+use Rattle.std.specs.Prelude.{◌≡◌, ℕ, suc, ◌<◌, ◌+◌, ◌-◌, ◌^◌, nat_lt, ℤ, pos, negsuc, ◌≤ℤ◌, ◌-ℤ◌, Bool, true, false, cond, ◌&&◌, int_le, length, get_or, drop, map, List, [], ◌∷◌, Option, Some, None}
 use Rattle.std.specs.List.{flat_map}
-use Rattle.std.proofs.Common.{refl, sym, ◌∙◌, ap, subst, to_z, arith, add-one}
+use Rattle.std.proofs.Common.{refl, sym, ◌∙◌, ap, to_z, arith, add-one}
 use Rattle.std.specs.Int.{w128}
 use Rattle.std.proofs.lemmas.Int.{ints}
 use Rattle.std.proofs.lemmas.List.{at_drop_more}
@@ -16,7 +16,7 @@ use Rattle.lin_base.proofs.Ring.{is_zero_in}
 use Rattle.cert_tree.specs.declared.certs.Tree.{Tree}
 use Rattle.cert_tree.specs.Counting.{count_from, numbers_below, is_over_free}
 use Rattle.cert_tree.specs.Narrow.{if_narrow}
-use Rattle.cert_tree.specs.Children.{residue_steps, residues_steps, residue_child, residue_children}
+use Rattle.cert_tree.specs.Children.{residue_steps, residues_steps, residue_child}
 use Rattle.cert_tree.specs.Stands.{Node, each_stands, numbered_stand, residues_stand}
 use Rattle.cert_tree.proofs.Narrow.{is_narrow-append}
 use Rattle.cert_tree.proofs.Truth.{if_narrow_out}

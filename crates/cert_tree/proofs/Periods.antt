@@ -1,11 +1,10 @@
 -- The period, fact by fact.
-use Rattle.std.specs.Prelude.{◌≡◌, ℕ, ◌<◌, ◌+◌, ℤ, pos, ◌≤ℤ◌, length, get_or, drop, List, [], ◌∷◌, ◌++◌, Option, Some, None}
+use Rattle.std.specs.Prelude.{◌≡◌, ℕ, ◌<◌, ◌+◌, ℤ, pos, ◌≤ℤ◌, length, get_or, drop, List, ◌++◌, Option, Some, None}
 use Rattle.std.specs.List.{filter_map, cons_option}
-use Rattle.std.proofs.Common.{refl, ◌∙◌, ap, arith}
+use Rattle.std.proofs.Common.{refl, ◌∙◌, arith}
 use Rattle.std.proofs.lemmas.Int.{ints}
 use Rattle.std.proofs.lemmas.List.{at_drop_more}
 use Rattle.lin_base.specs.declared.facts.Fact.{Fact}
-use Rattle.lin_base.specs.declared.wides.Wide.{Wide}
 use Rattle.lin_base.specs.Whole.{lcm}
 use Rattle.lin_base.proofs.Forming.{forming}
 use Rattle.cert_tree.specs.Points.{modulus_at, lcm_onto, lcm_onto_steps, next_period, next_period_steps}

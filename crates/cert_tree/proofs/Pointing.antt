@@ -1,25 +1,23 @@
 -- Lower bounds and test points are well formed.
-use Rattle.std.specs.Prelude.{◌≡◌, ℕ, ◌<◌, ◌+◌, ◌==◌, ℤ, pos, negsuc, neg_ℤ, ◌≤ℤ◌, ◌<ℤ◌, ◌*ℤ◌, Bool, true, false, not, cond, ◌&&◌, int_le, int_lt, IsTrue, IfSome, option_map, length, get_or, drop, map, List, [], ◌∷◌, ◌++◌, Option, Some, None}
-use Rattle.std.specs.List.{list_all, list_any, flat_map}
-use Rattle.std.proofs.Common.{refl, sym, ◌∙◌, ap, subst, arith, inl, inr}
+use Rattle.std.specs.Prelude.{◌≡◌, ℕ, ◌<◌, ◌+◌, ◌==◌, ℤ, pos, neg_ℤ, ◌≤ℤ◌, ◌<ℤ◌, ◌*ℤ◌, true, false, not, ◌&&◌, int_le, int_lt, IsTrue, IfSome, option_map, length, get_or, drop, List, [], ◌∷◌, ◌++◌}
+use Rattle.std.specs.List.{list_all, list_any}
+use Rattle.std.proofs.Common.{refl, ◌∙◌, ap, arith, inl, inr}
 use Rattle.std.proofs.lemmas.Int.{ints}
 use Rattle.std.proofs.lemmas.Bool.{cond_both, cases_Bool, and_parts, and_from, not-true}
 use Rattle.std.proofs.lemmas.List.{at_drop_more}
 use Rattle.lin_base.specs.declared.sums.Lin.{Lin}
 use Rattle.lin_base.specs.declared.facts.Fact.{Fact}
 use Rattle.lin_base.specs.declared.facts.Fact.TheVariants.{AtMostZero, Zero, Divides, NotDivides}
-use Rattle.lin_base.specs.declared.wides.Wide.{Wide}
 use Rattle.lin_base.specs.Whole.{is_zero}
 use Rattle.lin_base.specs.Fact.{is_fact, is_lin, is_ascending}
 use Rattle.lin_base.specs.Sum.{Terms, coef, occurs, add_term, add_terms, add_number, number, without, is_reduced}
-use Rattle.lin_base.specs.Change.{replace}
 use Rattle.lin_base.proofs.Ring.{le_in, mul_positive}
 use Rattle.lin_base.proofs.Merging.{ascending_parts, add_term-below}
 use Rattle.lin_base.proofs.WellFormed.{is_fact-replace, is_lin-without, is_lin-add_number}
 use Rattle.cert_tree.specs.declared.sums.Side.{Side}
-use Rattle.cert_tree.specs.Points.{solved, below}
+use Rattle.cert_tree.specs.Points.{solved}
 use Rattle.cert_tree.specs.Bounds.{bound_of, is_side}
-use Rattle.cert_tree.specs.Children.{lower_bound, below_bound, solved_bound, point, far_down, far_down_steps, far_child, far_child_steps}
+use Rattle.cert_tree.specs.Children.{lower_bound, point, far_down, far_down_steps, far_child, far_child_steps}
 use Rattle.cert_tree.proofs.Replacing.{occurs-without, positive-solved, occurs-solved, is_lin-solved, is_fact-with_value}
 
 -- ---- a number added

@@ -1,23 +1,21 @@
 -- Facts with a sum put for a multiple of an unknown.
-use Rattle.std.specs.Prelude.{◌≡◌, ℕ, ◌<◌, ◌+◌, ℤ, pos, negsuc, neg_ℤ, ◌≤ℤ◌, ◌<ℤ◌, ◌*ℤ◌, Bool, true, false, not, cond, ◌==◌, ◌&&◌, ◌||◌, int_lt, int_le, IsTrue, length, get_or, drop, map, List, [], ◌∷◌, ◌++◌, if◌then◌else◌}
+use Rattle.std.specs.Prelude.{◌≡◌, ℕ, ◌<◌, ◌+◌, ℤ, pos, negsuc, ◌≤ℤ◌, ◌*ℤ◌, Bool, true, false, not, ◌==◌, ◌||◌, int_lt, int_le, length, get_or, drop, map, List, [], ◌∷◌, ◌++◌}
 use Rattle.std.specs.List.{filter, list_all, list_any}
 use Rattle.std.proofs.Common.{refl, sym, ◌∙◌, arith, inl, inr}
-use Rattle.std.proofs.lemmas.Int.{ints, to_z-of_z}
+use Rattle.std.proofs.lemmas.Int.{ints}
 use Rattle.std.proofs.lemmas.Bool.{cond_both, cases_Bool, and_parts, and_from, true≢false}
 use Rattle.std.proofs.lemmas.List.{at_drop_more}
-use Rattle.std.proofs.lemmas.Grind.{common_steps}
 use Rattle.lin_base.specs.declared.sums.Lin.{Lin}
 use Rattle.lin_base.specs.declared.facts.Fact.{Fact}
 use Rattle.lin_base.specs.declared.facts.Fact.TheVariants.{Divides}
-use Rattle.lin_base.specs.declared.wides.Wide.{Wide}
 use Rattle.lin_base.specs.Whole.{is_zero, is_same}
 use Rattle.lin_base.specs.Fact.{is_fact, is_lin}
-use Rattle.lin_base.specs.Sum.{Terms, coef, occurs, with_term, add_terms, scale_terms, scale, without, negated, add_number}
+use Rattle.lin_base.specs.Sum.{Terms, coef, occurs, scale_terms, without, negated}
 use Rattle.lin_base.specs.Change.{replace}
 use Rattle.lin_base.specs.Steps.{replace_steps, replace_all_steps}
-use Rattle.lin_base.proofs.Ring.{le_in, neg-mul}
-use Rattle.lin_base.proofs.WellFormed.{is_fact-replace, is_lin-without, is_lin-scale, is_lin-add_number}
-use Rattle.cert_tree.specs.Points.{Side, solved, made_positive, below, divides_part}
+use Rattle.lin_base.proofs.Ring.{le_in}
+use Rattle.lin_base.proofs.WellFormed.{is_fact-replace, is_lin-without}
+use Rattle.cert_tree.specs.Points.{solved, made_positive, divides_part}
 use Rattle.cert_tree.specs.Children.{with_value, solved_facts}
 use Rattle.cert_tree.proofs.Truth.{positive_from}
 use Rattle.cert_tree.proofs.Forming.{forming, is_lin-negated}

@@ -1,7 +1,7 @@
 -- What rows need: well-formed clauses, and sums without the variable.
-use Rattle.std.specs.Prelude.{◌≡◌, ℕ, ◌<◌, ◌+◌, ◌==◌, ℤ, pos, ◌≤ℤ◌, Bool, true, false, not, cond, ◌&&◌, ◌||◌, nat_le, nat_lt, int_le, length, get_or, drop, map, List, [], ◌∷◌, ◌++◌, Option, Some, None}
-use Rattle.std.specs.List.{list_all, list_any, filter}
-use Rattle.std.proofs.Common.{refl, sym, ◌∙◌, ap, subst, arith, inl, inr}
+use Rattle.std.specs.Prelude.{◌≡◌, ℕ, ◌<◌, ◌+◌, ◌==◌, ℤ, pos, ◌≤ℤ◌, true, false, not, ◌&&◌, nat_le, nat_lt, int_le, length, get_or, drop, map, List, [], ◌∷◌, ◌++◌, Some, None}
+use Rattle.std.specs.List.{list_all, list_any}
+use Rattle.std.proofs.Common.{refl, sym, ◌∙◌, ap, arith, inl, inr}
 use Rattle.std.proofs.lemmas.Int.{ints}
 use Rattle.std.proofs.lemmas.Bool.{cond_both, and_parts, and_from, or_cases, not-true, ltb-true, leb-true, ne_eqb}
 use Rattle.std.proofs.lemmas.List.{at_drop_more}

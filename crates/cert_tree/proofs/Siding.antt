@@ -1,15 +1,13 @@
 -- A negated sum, seen from an unknown.
-use Rattle.std.specs.Prelude.{◌≡◌, ℕ, ℤ, pos, negsuc, ◌+ℤ◌, ◌*ℤ◌, neg_ℤ, Bool, true, false, not, cond, ◌==◌, IsTrue, List, [], ◌∷◌, ◌⊎◌, if◌then◌else◌}
+use Rattle.std.specs.Prelude.{◌≡◌, ℕ, ℤ, pos, negsuc, ◌+ℤ◌, ◌*ℤ◌, neg_ℤ, Bool, true, false, not, ◌==◌, [], ◌∷◌, ◌⊎◌, if◌then◌else◌}
 use Rattle.std.specs.List.{filter}
 use Rattle.std.proofs.Common.{refl, sym, ◌∙◌, ap, arith, inl, inr}
-use Rattle.std.proofs.lemmas.Int.{ints, to_z-of_z}
+use Rattle.std.proofs.lemmas.Int.{ints}
 use Rattle.std.proofs.lemmas.Bool.{cond_both, cases_Bool}
-use Rattle.std.proofs.lemmas.Grind.{common_steps}
 use Rattle.std.proofs.Math.IntN.{*ℤ-zero}
 use Rattle.lin_base.specs.declared.sums.Lin.{Lin}
 use Rattle.lin_base.specs.Whole.{is_zero}
-use Rattle.lin_base.specs.Fact.{is_lin}
-use Rattle.lin_base.specs.Sum.{Terms, coef, coef_in, with_term, scale_terms, scale, without, negated}
+use Rattle.lin_base.specs.Sum.{Terms, coef, coef_in, with_term, scale_terms, without, negated}
 use Rattle.lin_base.proofs.Ring.{mul-add, neg-mul, one_mul, is_zero_out}
 use Rattle.lin_base.proofs.WellFormed.{is_lin-without}
 use Rattle.cert_tree.proofs.Forming.{forming, is_lin-negated}

@@ -1,19 +1,18 @@
 -- A tree that stands closes: no values make its facts true.
-use Rattle.std.specs.Prelude.{◌≡◌, ℕ, ℤ, pos, true, false, not, ◌==◌, ◌&&◌, int_le, List, [], ◌∷◌, ◌++◌, map, slice_get}
+use Rattle.std.specs.Prelude.{◌≡◌, ℕ, ℤ, pos, true, false, not, ◌==◌, int_le, List, [], ◌∷◌, ◌++◌, map, slice_get}
 use Rattle.std.specs.List.{list_all, list_any, AllByRecursion}
 use Rattle.std.proofs.Common.{refl, sym, ◌∙◌, ap, subst, arith, inl, inr}
 use Rattle.std.proofs.lemmas.Int.{ints}
 use Rattle.std.proofs.lemmas.Bool.{and_parts, and_from, cases_Bool, false≢true, ne_eqb, eqb-false}
 use Rattle.lin_base.specs.declared.facts.Fact.{Fact}
 use Rattle.lin_base.specs.declared.facts.Fact.TheVariants.{AtMostZero}
-use Rattle.lin_base.specs.Sum.{Valuation, assigned, value, above}
+use Rattle.lin_base.specs.Sum.{Valuation, assigned, above}
 use Rattle.lin_base.specs.Fact.{holds, ClauseHoldsAt}
 use Rattle.cert_tree.specs.declared.certs.Tree.{Tree}
 use Rattle.cert_tree.specs.declared.certs.Tree.TheOpen.{Tree-F, Case, Combine, Cut, Branch, Residues, Solve, Least, Clash}
 use Rattle.cert_tree.specs.declared.certs.Tree.TheFolds.{map-Tree, ind-Tree}
 use Rattle.cert_tree.specs.declared.certs.Tree.TheViews.{roll-Tree}
 use Rattle.cert_tree.specs.Counting.{is_free, is_one_of}
-use Rattle.cert_tree.specs.Narrow.{option_then}
 use Rattle.lin_base.proofs.Values.{assigned-other}
 use Rattle.lin_base.proofs.Truth.{same_holds}
 use Rattle.cert_tree.specs.Children.{with_each, cut_of, least_children, residue_children}

@@ -1,11 +1,10 @@
 -- The check of values, clause by clause.
-use Rattle.std.specs.Prelude.{◌≡◌, ℕ, zero, suc, ◌+◌, ◌-◌, ◌<◌, ◌≤◌, ◌==◌, nat_lt, ℤ, pos, ◌*ℤ◌, ◌+ℤ◌, Bool, true, false, not, cond, ◌&&◌, ◌||◌, int_le, IsTrue, IfOk, length, get_or, drop, map, List, [], ◌∷◌, ◌++◌, Option, Some, None, Result, Ok, Err, if◌then◌else◌}
-use Rattle.std.specs.List.{list_all, list_any, enumerate_from}
+use Rattle.std.specs.Prelude.{◌≡◌, ℕ, suc, ◌+◌, ◌<◌, ℤ, pos, Bool, true, false, not, cond, ◌&&◌, ◌||◌, int_le, IsTrue, IfOk, length, get_or, drop, map, List, [], ◌∷◌, ◌++◌, Option, Some, None, Result, Ok, Err, if◌then◌else◌}
+use Rattle.std.specs.List.{list_all, enumerate_from}
 use Rattle.std.specs.declared.alloc.AllocError.{AllocError}
-use Rattle.std.proofs.Common.{refl, sym, ◌∙◌, ap, subst, arith, add-one, inl, inr}
+use Rattle.std.proofs.Common.{refl, sym, ◌∙◌, ap, arith, add-one}
 use Rattle.std.proofs.lemmas.Int.{ints}
 use Rattle.std.proofs.Math.IntN.{*ℤ-zero}
-use Rattle.std.proofs.lemmas.Bool.{cond_both, cases_Bool, lt-ltb, le-ltb, eq-eqb, ne_eqb}
 use Rattle.std.proofs.lemmas.List.{drop_more}
 use Rattle.std.proofs.lemmas.List.Folds.{list_all-append}
 use Rattle.lin_base.specs.declared.sums.Lin.{Lin}
@@ -13,14 +12,13 @@ use Rattle.lin_base.specs.declared.facts.Fact.{Fact}
 use Rattle.lin_base.specs.declared.facts.Fact.TheVariants.{AtMostZero, Zero, Divides, NotDivides}
 use Rattle.lin_base.specs.Whole.{is_zero, divides}
 use Rattle.lin_base.specs.Sum.{Terms, value, value_of_terms, occurs}
-use Rattle.lin_base.specs.Unknowns.{put_in, put_terms_in, unknowns_of}
 use Rattle.lin_base.specs.Fact.{holds, holds_at, sum_of, clause_holds}
 use Rattle.lin_base.specs.Steps.{is_narrow}
 use Rattle.cert_tree.specs.Counting.{occurs_in}
 use Rattle.cert_tree.specs.Narrow.{if_narrow}
 use Rattle.cert_tree.specs.Rows.{row_clause}
 use Rattle.cert_tree.specs.Complete.{complete_rows, complete, complete_steps}
-use Rattle.cert_tree.specs.Ground.{Numbered, Grounding, then_ground, ground_each, ground_by, variables, unknowns}
+use Rattle.cert_tree.specs.Ground.{Numbered, Grounding, then_ground, ground_each, ground_by, variables}
 use Rattle.cert_tree.specs.Holds.{at_value, at_steps, put_from, put_steps_from, clause_checks, ground_holds}
 use Rattle.cert_tree.proofs.Narrow.{is_narrow-append}
 use Rattle.cert_tree.proofs.Combinations.{if_narrow-append}
@@ -181,36 +179,6 @@ module _ (values : List ℤ) (i : ℕ) (z : ℤ) (clause : List Fact) (o : Optio
       by_steps : (b : Bool) → cond b (Some (at_value i z clause)) None ≡ None → cond b (put_onto (i + 1) (drop (i + 1) values) (at_value i z clause)) None ≡ None
       by_steps true k = absurd (cc)
       by_steps false k = refl
-
--- ---- unknowns in order
-module _ (x : ℕ) (xs : List ℕ) (i y : ℕ) (h : i < length xs) (at_ : y ≡ get_or xs i y) where
-  put_at : put_in x (drop i xs) ≡ put_in x (y ∷ drop (i + 1) xs)
-  put_at = ap (put_in x) (drop_more xs i y h ∙ ap (λ w. w ∷ drop (i + 1) xs) (sym at_))
-
-  same_drop : drop i xs ≡ y ∷ drop (i + 1) xs
-  same_drop = drop_more xs i y h ∙ ap (λ w. w ∷ drop (i + 1) xs) (sym at_)
-
-  pub put_less : x < y → put_in x (drop i xs) ≡ x ∷ drop i xs
-  put_less less = put_at ∙ rw (lt-ltb x y less) (ap (λ ys. x ∷ ys) (sym same_drop))
-
-  pub put_same : x ≡ y → put_in x (drop i xs) ≡ drop i xs
-  put_same same = put_at ∙ rw (le-ltb x y (omega (arith, same)), eq-eqb x y same) (sym same_drop)
-
-  pub put_more : y < x → put_in x (drop i xs) ≡ y ∷ put_in x (drop (i + 1) xs)
-  put_more more = put_at ∙ rw (le-ltb x y (omega (arith, more)), ne_eqb x y (λ same. omega (arith, more, same))) refl
-
--- the last k, from the one before them on
-back_at : {A : Type 0} (xs : List A) (k : ℕ) (d : A) → k < length xs → drop (length xs - (k + 1)) xs ≡ get_or xs (length xs - 1 - k) d ∷ drop (length xs - k) xs
-back_at xs k d h =
-    let e : length xs - (k + 1) ≡ length xs - 1 - k = omega arith in
-    let f : length xs - k ≡ length xs - 1 - k + 1 = omega (arith, h) in
-    rw (e, f) (drop_more xs (length xs - 1 - k) d (omega (arith, h)))
-
-pub terms_back : (ts : Terms) (xs : List ℕ) (k : ℕ) (e : ℕ × ℤ) → k < length ts → e ≡ get_or ts (length ts - 1 - k) e → put_terms_in (drop (length ts - (k + 1)) ts) xs ≡ put_in e.0 (put_terms_in (drop (length ts - k) ts) xs)
-terms_back ts xs k e h at_ = ap (λ us. put_terms_in us xs) (back_at ts k e h ∙ ap (λ f. f ∷ drop (length ts - k) ts) (sym at_))
-
-pub facts_back : (fs : List Fact) (k : ℕ) (f : Fact) → k < length fs → f ≡ get_or fs (length fs - 1 - k) f → unknowns (drop (length fs - (k + 1)) fs) ≡ put_terms_in (sum_of f).coefs (unknowns (drop (length fs - k) fs))
-facts_back fs k f h at_ = ap unknowns (back_at fs k f h ∙ ap (λ g. g ∷ drop (length fs - k) fs) (sym at_))
 
 -- ---- what the answer tells
 pub told : (r : Result Bool AllocError) (b : Bool) (P : Type 0) → IfOk r (λ y. y ≡ b) → (b ≡ true → P) → IfOk r (λ y. IsTrue y → P)

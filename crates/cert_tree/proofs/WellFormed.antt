@@ -1,5 +1,5 @@
 -- Well-formed facts have moduli of at least 1.
-use Rattle.std.specs.Prelude.{◌≡◌, zero, suc, ℤ, pos, ◌<ℤ◌, Bool, true, IsTrue, int_le, List, [], ◌∷◌}
+use Rattle.std.specs.Prelude.{◌≡◌, zero, suc, ℤ, pos, ◌<ℤ◌, true, IsTrue, int_le, List, [], ◌∷◌}
 use Rattle.std.specs.List.{list_all, AllByRecursion}
 use Rattle.std.proofs.Common.{refl, arith, inl, inr}
 use Rattle.std.proofs.lemmas.Int.{ints}

@@ -1,5 +1,5 @@
 -- The children of Least, bound by bound.
-use Rattle.std.specs.Prelude.{ℕ, ℤ, pos, Bool, true, false, not, int_lt, nat_le, ◌==◌, unsigned_abs, length, take, drop, List, [], ◌∷◌, ◌++◌, Option, Some, None, if◌then◌else◌}
+use Rattle.std.specs.Prelude.{ℕ, ℤ, pos, Bool, true, false, not, int_lt, nat_le, ◌==◌, unsigned_abs, length, take, drop, List, [], ◌∷◌, Option, Some, None, if◌then◌else◌}
 use Rattle.lin_base.specs.declared.sums.Lin.{Lin}
 use Rattle.lin_base.specs.declared.facts.Fact.{Fact}
 use Rattle.lin_base.specs.declared.facts.Fact.TheVariants.{AtMostZero, Zero}

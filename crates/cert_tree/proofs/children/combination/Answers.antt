@@ -1,4 +1,4 @@
-use Rattle.std.proofs.Common.{◌≡◌, ◌∙◌, ap, sym, subst, get_or, pos, Some, None, Option, IfSome, IsTrue}
+use Rattle.std.proofs.Common.{◌∙◌, sym, subst, get_or, pos, Option, IfSome, IsTrue}
 use Rattle.lin_base.specs.declared.sums.Lin.{Lin}
 use Rattle.lin_base.specs.Fact.{is_lin}
 use Rattle.cert_tree.proofs.Combinations.{at-none, at-some}

@@ -1,4 +1,4 @@
-use Rattle.std.proofs.Common.{◌≡◌, ◌∙◌, ap, subst, sym}
+use Rattle.std.proofs.Common.{subst}
 use Rattle.lin_base.specs.Steps.{Forms, replace_all_steps}
 use Rattle.lin_base.proofs.Forming.{Forms-after}
 use Rattle.cert_tree.specs.declared.sums.Side.{Side}

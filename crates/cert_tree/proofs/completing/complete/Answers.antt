@@ -1,4 +1,4 @@
-use Rattle.std.proofs.Common.{◌≡◌, ◌∙◌, sym, subst, Option, List, ℤ, IfOk, IfSome, IsTrue, ◌++◌, arith, to_z, of_z}
+use Rattle.std.proofs.Common.{◌≡◌, sym, subst, Option, List, ℤ, IfOk, IsTrue, ◌++◌, arith, to_z, of_z}
 use Rattle.std.specs.Int.{w128}
 use Rattle.std.specs.List.{list_all}
 use Rattle.std.proofs.lemmas.Int.{to_z-of_z}
@@ -6,7 +6,7 @@ use Rattle.std.proofs.lemmas.Grind.{common_steps}
 use Rattle.lin_base.specs.declared.facts.Fact.{Fact}
 use Rattle.lin_base.specs.Fact.{is_fact}
 use Rattle.lin_base.specs.Steps.{Forms}
-use Rattle.cert_tree.specs.Complete.{complete, uppers_steps, uppers_at, lows_steps, lows_at}
+use Rattle.cert_tree.specs.Complete.{uppers_steps, uppers_at, lows_steps, lows_at}
 use Rattle.cert_tree.proofs.Completion.{complete_value, complete_none, is_fact-rows, narrow_gives}
 use Rattle.cert_tree.proofs.Forming.{narrow_keeps}
 use Rattle.lin_base.proofs.Forming.{Forms-value}

@@ -1,4 +1,4 @@
-use Rattle.std.proofs.Common.{◌≡◌, ◌∙◌, ap, subst, sym, pos, ◌≤ℤ◌, true, ◌++◌, List, ℕ, map, Err, arith}
+use Rattle.std.proofs.Common.{◌≡◌, subst, sym, pos, ◌≤ℤ◌, true, List, ℕ, map, Err, arith}
 use Rattle.std.specs.Prelude.{◌*ℤ◌}
 use Rattle.std.specs.List.{flat_map}
 use Rattle.std.proofs.lemmas.Grind.{common_steps}
@@ -6,10 +6,9 @@ use Rattle.lin_base.specs.declared.wides.ArithmeticError.{ArithmeticError}
 use Rattle.lin_base.specs.Steps.{Forms, first_wide, IsErrorAt}
 use Rattle.lin_base.proofs.Forming.{Forms-after, Forms-err, IsErrorAt-append_some}
 use Rattle.cert_tree.specs.declared.test_points.Bound.{Bound}
-use Rattle.cert_tree.specs.Above.{above_bound}
 use Rattle.cert_tree.specs.Bounds.{is_side}
 use Rattle.lin_base.specs.Sum.{above}
-use Rattle.cert_tree.specs.Counting.{count_from, numbers_below}
+use Rattle.cert_tree.specs.Counting.{numbers_below}
 use Rattle.cert_tree.specs.Complete.{above_bound_steps, moved_steps, moved_instance, instances_steps, instances_at}
 use Rattle.cert_tree.proofs.Pointing.{side_positive}
 use Rattle.cert_tree.proofs.Completion.{below_abs, product_up, is_side-above}

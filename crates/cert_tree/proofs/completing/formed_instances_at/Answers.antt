@@ -1,4 +1,4 @@
-use Rattle.std.proofs.Common.{◌≡◌, ◌∙◌, ap, sym, subst, ◌++◌, ◌+◌, ◌-◌, drop, get_or, Err, List, map, pos, false, arith, append_assoc}
+use Rattle.std.proofs.Common.{◌≡◌, sym, subst, ◌+◌, ◌-◌, Err, List, map, arith, append_assoc}
 use Rattle.std.proofs.lemmas.Grind.{common_steps}
 use Rattle.lin_base.specs.declared.wides.Wide.{Wide}
 use Rattle.lin_base.specs.Steps.{first_wide, IsErrorAt}

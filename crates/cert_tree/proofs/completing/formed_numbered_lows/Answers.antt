@@ -1,9 +1,9 @@
-use Rattle.std.proofs.Common.{◌≡◌, ◌∙◌, ap, sym, subst, ◌++◌, ◌+◌, ◌-◌, drop, get_or, Err, List, map, pos, false, arith, append_assoc}
+use Rattle.std.proofs.Common.{◌≡◌, sym, subst, ◌+◌, ◌-◌, Err, List, pos, arith, append_assoc}
 use Rattle.std.proofs.lemmas.Grind.{common_steps}
 use Rattle.lin_base.specs.declared.wides.Wide.{Wide}
 use Rattle.lin_base.specs.Steps.{first_wide, IsErrorAt}
 use Rattle.lin_base.proofs.Forming.{Forms-err, IsErrorAt-append_some, forming}
-use Rattle.cert_tree.specs.Rows.{low_at, low_steps}
+use Rattle.cert_tree.specs.Rows.{low_steps}
 use Rattle.cert_tree.specs.Counting.{count_from}
 use Rattle.cert_tree.specs.Complete.{numbered_low_steps, numbered_lows}
 use Rattle.cert_tree.proofs.Completion.{low_steps-at, lows-at}

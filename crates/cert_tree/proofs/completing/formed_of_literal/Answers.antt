@@ -1,4 +1,4 @@
-use Rattle.std.proofs.Common.{◌≡◌, ◌∙◌, ap, subst, sym, IfSome, IsTrue, Option, Err, arith}
+use Rattle.std.proofs.Common.{◌≡◌, ◌∙◌, subst, sym, IfSome, IsTrue, Option, Err, arith}
 use Rattle.std.proofs.lemmas.Grind.{common_steps}
 use Rattle.lin_base.proofs.Forming.{Forms-err}
 use Rattle.cert_tree.specs.declared.sums.Side.{Side}

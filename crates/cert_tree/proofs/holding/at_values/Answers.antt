@@ -1,4 +1,4 @@
-use Rattle.std.proofs.Common.{◌≡◌, ◌∙◌, ap, refl, sym, subst, get_or, pos, IfSome, IsTrue, List, Option}
+use Rattle.std.proofs.Common.{◌∙◌, refl, sym, subst, get_or, pos, IfSome, IsTrue, List, Option}
 use Rattle.std.specs.List.{list_all}
 use Rattle.lin_base.specs.declared.facts.Fact.{Fact}
 use Rattle.lin_base.specs.Fact.{is_fact}

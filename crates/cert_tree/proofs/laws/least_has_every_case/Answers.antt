@@ -1,4 +1,3 @@
-use Rattle.cert_tree.specs.Laws.{AllHold, SomeHold}
 use Rattle.cert_tree.proofs.Least.{least_some}
 use Rattle.cert_tree.proofs.WellFormed.{each_proper, each_good, some_hold}
 use Rattle.lin_base.specs.Sum.{assigned}

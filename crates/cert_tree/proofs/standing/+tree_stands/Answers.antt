@@ -1,19 +1,16 @@
-use Rattle.std.proofs.Common.{rules, ◌≡◌, ◌∙◌, ap, refl, sym, subst, take, drop, ◌+◌, ◌-◌, Some, ℕ, true, false, pos, ◌≤ℤ◌, ◌++◌, ◌∷◌, [], ◌<ℤ◌, length, map, Option, IfOk, IfSome, IsTrue, Bool, ℤ, List, arith, to_z, of_z}
+use Rattle.std.proofs.Common.{◌≡◌, ◌∙◌, ap, refl, sym, subst, take, drop, ◌+◌, ◌-◌, Some, ℕ, true, false, pos, ◌≤ℤ◌, ◌++◌, ◌∷◌, [], length, map, Option, IfOk, IfSome, Bool, ℤ, List, arith, to_z, of_z}
 use Rattle.std.specs.Prelude.{int_lt}
 use Rattle.std.specs.Int.{w128}
-use Rattle.std.specs.List.{list_all}
 use Rattle.std.proofs.lemmas.Int.{ints, to_z-of_z}
 use Rattle.std.proofs.lemmas.List.{length-map}
 use Rattle.std.proofs.lemmas.Grind.{common_steps}
-use Rattle.lin_base.specs.declared.sums.Lin.{Lin}
 use Rattle.lin_base.specs.declared.facts.Fact.{Fact}
-use Rattle.lin_base.specs.Fact.{is_fact, is_lin}
 use Rattle.lin_base.proofs.Ring.{le_in}
-use Rattle.cert_tree.proofs.Bounding.{taken_next, bound_takes, bounds_on, bounds_off, bounds_end, least-wide, least-bounds, least-far, least-far_count}
+use Rattle.cert_tree.proofs.Bounding.{taken_next, bound_takes, bounds_on, bounds_end, least-wide, least-bounds, least-far, least-far_count}
 use Rattle.cert_tree.specs.Children.{lower_bound, residue, residue_steps, residue_child, far_child, far_child_steps, point, point_steps}
 use Rattle.cert_tree.specs.declared.certs.Tree.{Tree}
 use Rattle.cert_tree.specs.Leasts.{is_count, bounds_stand}
-use Rattle.cert_tree.specs.Stands.{Node, tree_stands, numbered_stand, residues_stand, least_stands}
+use Rattle.cert_tree.specs.Stands.{tree_stands, numbered_stand, least_stands}
 use Rattle.cert_tree.proofs.Nodes.{stands-least}
 use Rattle.cert_tree.proofs.Truth.{if_narrow_out}
 use Rattle.cert_tree.proofs.Numbered.{numbered_on, numbered_next, numbered_wide, numbered_not, residues_numbered, count_of}

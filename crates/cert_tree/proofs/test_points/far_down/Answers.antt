@@ -1,6 +1,5 @@
-use Rattle.std.proofs.Common.{◌≡◌, sym, subst, pos, Result}
+use Rattle.std.proofs.Common.{sym, subst, pos}
 use Rattle.lin_base.specs.declared.facts.Fact.{Fact}
-use Rattle.lin_base.specs.declared.wides.ArithmeticError.{ArithmeticError}
 use Rattle.lin_base.specs.Change.{replace}
 use Rattle.lin_base.specs.Steps.{Forms, replace_steps}
 use Rattle.lin_base.specs.Sum.{number}

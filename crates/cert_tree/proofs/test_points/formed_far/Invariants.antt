@@ -1,4 +1,4 @@
-use Rattle.std.proofs.Common.{◌≡◌, ◌++◌, map, drop}
+use Rattle.std.proofs.Common.{◌≡◌, ◌++◌, drop}
 use Rattle.lin_base.specs.Steps.{first_wide}
 use Rattle.cert_tree.specs.Children as spec
 use Rattle.cert_tree.proofs.test_points.formed_far.Given as goal

@@ -1,4 +1,4 @@
-use Rattle.std.proofs.Common.{◌≡◌, ◌∙◌, ap, subst, sym, pos, false, ◌++◌, Err, arith}
+use Rattle.std.proofs.Common.{◌≡◌, subst, sym, pos, false, ◌++◌, Err, arith}
 use Rattle.std.proofs.lemmas.Grind.{common_steps}
 use Rattle.lin_base.specs.Steps.{Forms, add_number_steps, replace_all_steps}
 use Rattle.lin_base.specs.Sum.{occurs}

@@ -1,6 +1,0 @@
-use Rattle.std.proofs.Common.{◌≡◌, ◌++◌, drop}
-use Rattle.lin_base.specs.Unknowns.{put_in}
-use Rattle.cert_tree.proofs.variables.with_unknown.Given as goal
-
-abbrev pub invariant-loop-i : goal.invariant-loop-i
-invariant-loop-i l = put_in l.x l.xs ≡ l.made ++ put_in l.x (drop l.i l.xs)
