@@ -1,9 +1,8 @@
 -- Certificates within their ranges that meet the conditions have a spelling.
-use Rattle.std.proofs.Common.{◌≡◌, ℕ, zero, suc, ◌-◌, ◌^◌, ◌<◌, ◌≤◌, ℤ, pos, negsuc, Bool, true, List, [], ◌∷◌, ◌++◌, length, map, refl, sym, ap, subst, ◌∙◌, arith}
+use Rattle.std.proofs.Common.{◌≡◌, ℕ, suc, ◌-◌, ◌^◌, ℤ, pos, negsuc, Bool, true, List, [], ◌∷◌, ◌++◌, length, map, refl, sym, ap, subst, ◌∙◌, arith}
 use Rattle.std.specs.Prelude.{codes, ◌&&◌}
 use Rattle.std.specs.List.{list_all}
 use Rattle.std.proofs.lemmas.Bool.{and_parts, ltb-true}
-use Rattle.std.proofs.lemmas.Int.{ints}
 use Rattle.std.proofs.lemmas.List.{length-map}
 use Rattle.lin_base.specs.declared.sums.Lin.{Lin}
 use Rattle.lin_base.specs.Whole.{is_in_range, is_same}
@@ -24,7 +23,7 @@ use Rattle.text_pieces.specs.Languages.{HasSpelling, Cat, Blank, Exactly, Times}
 use Rattle.text_pieces.specs.Numbers.{Number, Within, Any, Word32, Signed, Signed128, Counted}
 use Rattle.text_pieces.proofs.Having.{has-cat, has-blank, has-image, has-number, has-signed, EachHas, has-times, has-counted}
 use Rattle.cert_text.specs.Sums.{Term, Terms, SpellsLin, lin_of}
-use Rattle.cert_text.specs.Grammar.{Index, Whole, Modulus, Sum, Multiple, RowWord, RowParts, SpellsRow, row_word, NodeWord, NodeParts, SpellsTree, node_word, cert_of, Spells}
+use Rattle.cert_text.specs.Grammar.{Index, Whole, Modulus, Sum, Multiple, RowWord, RowParts, SpellsRow, row_word, NodeParts, SpellsTree, node_word, cert_of, Spells}
 use Rattle.cert_text.specs.Spelled.{all_yes, row_is_spelled, node_is_spelled, tree_is_spelled, is_spelled}
 use Rattle.cert_text.specs.Ranges.{is_word32, multiple_fits, lin_fits, row_fits, node_fits, tree_fits, cert_fits}
 use Rattle.cert_text.proofs.Ascending.{AscendsFrom, ascends, whole_term}

@@ -1,9 +1,8 @@
 -- Rows, nodes and certificates put behind a text, part by part.
-use Rattle.std.proofs.Common.{◌≡◌, ℕ, ◌+◌, ◌<◌, ℤ, pos, Bool, true, List, [], ◌∷◌, ◌++◌, length, map, take, get_or, refl, sym, ap, subst, ◌∙◌, append_assoc, arith, IsTrue}
+use Rattle.std.proofs.Common.{◌≡◌, ℕ, ℤ, pos, Bool, true, List, [], ◌∷◌, ◌++◌, length, map, refl, sym, ap, subst, ◌∙◌, append_assoc, arith, IsTrue}
 use Rattle.std.specs.Prelude.{codes, ◌&&◌, ◌-ℤ◌}
 use Rattle.std.specs.List.{list_all}
 use Rattle.std.proofs.lemmas.Int.{ints}
-use Rattle.std.proofs.lemmas.List.{take_more}
 use Rattle.lin_base.specs.declared.sums.Lin.{Lin}
 use Rattle.lin_base.specs.Whole.{is_same}
 use Rattle.lin_base.proofs.Ring.{is_zero_out}
@@ -16,9 +15,9 @@ use Rattle.cert_text.specs.declared.kinds.NodeKind.{NodeKind}
 use Rattle.cert_text.specs.declared.kinds.NodeKind.TheVariants.{Case, Combine, Cut, Branch, Residues, Solve, Least, Clash}
 use Rattle.cert_text.specs.declared.kinds.RowKind.{RowKind}
 use Rattle.cert_text.specs.declared.kinds.RowKind.TheVariants.{Inst, Low}
-use Rattle.text_pieces.specs.Languages.{Cat, Blank, Image, Exactly, Times}
+use Rattle.text_pieces.specs.Languages.{Cat, Blank, Exactly, Times}
 use Rattle.text_pieces.specs.Numbers.{Counted}
-use Rattle.cert_text.specs.Grammar.{Index, Whole, Modulus, Sum, Multiple, RowWord, RowParts, SpellsRow, row_word, NodeWord, NodeParts, SpellsTree, node_word, cert_of, Spells}
+use Rattle.cert_text.specs.Grammar.{Index, Whole, Modulus, Sum, Multiple, RowWord, RowParts, SpellsRow, row_word, NodeParts, SpellsTree, node_word, cert_of, Spells}
 use Rattle.text_pieces.specs.Printing.{Adds}
 use Rattle.cert_text.specs.Spelled.{all_yes, tree_is_spelled}
 use Rattle.text_pieces.proofs.Adding.{adds-cat, adds-image}

@@ -1,7 +1,7 @@
 use Rattle.text_pieces.proofs.Adding.{adds-blank}
 use Rattle.cert_text.specs.Grammar.{SpellsRow}
 use Rattle.std.proofs.lemmas.Result.{MatchResult-weaker}
-use Rattle.text_pieces.proofs.Keeping.{as_it_was, by_bytes, by_added, then_kept, then_added, puts_err}
+use Rattle.text_pieces.proofs.Keeping.{as_it_was, by_bytes, then_kept, puts_err}
 use Rattle.cert_text.proofs.printing.push_blank_row.Goals as goal
 
 pub returns-in_err-push : goal.returns-in_err-push

@@ -5,7 +5,7 @@ use Rattle.text_pieces.specs.Printing.{Adds}
 use Rattle.cert_text.specs.Grammar.{Whole}
 use Rattle.cert_text.proofs.Printed.{adds-inst}
 use Rattle.std.proofs.lemmas.Result.{MatchResult-weaker}
-use Rattle.text_pieces.proofs.Keeping.{as_it_was, by_bytes, by_added, then_kept, then_added, puts_err}
+use Rattle.text_pieces.proofs.Keeping.{as_it_was, by_bytes, then_kept, then_added, puts_err}
 use Rattle.cert_text.proofs.printing.push_inst.Goals as goal
 
 pub returns-in_err-push : goal.returns-in_err-push

@@ -8,7 +8,7 @@ use Rattle.cert_text.specs.Sums.{Terms}
 use Rattle.cert_text.specs.Grammar.{Whole}
 use Rattle.cert_text.proofs.Ascending.{adds-lin}
 use Rattle.std.proofs.lemmas.Result.{MatchResult-weaker}
-use Rattle.text_pieces.proofs.Keeping.{as_it_was, by_bytes, by_added, then_kept, then_added, puts_err}
+use Rattle.text_pieces.proofs.Keeping.{by_added, then_kept, then_added, puts_err}
 use Rattle.cert_text.proofs.printing.push_lin.Goals as goal
 
 pub returns-in_err-push_count : goal.returns-in_err-push_count

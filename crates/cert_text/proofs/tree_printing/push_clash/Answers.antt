@@ -1,6 +1,6 @@
 use Rattle.cert_text.proofs.Printed.{adds-clash}
 use Rattle.std.proofs.lemmas.Result.{MatchResult-weaker}
-use Rattle.text_pieces.proofs.Keeping.{as_it_was, by_bytes, by_added, then_kept, then_added, puts_err}
+use Rattle.text_pieces.proofs.Keeping.{as_it_was, by_bytes, then_kept, puts_err}
 use Rattle.cert_text.proofs.tree_printing.push_clash.Goals as goal
 
 pub returns-in_err-push : goal.returns-in_err-push

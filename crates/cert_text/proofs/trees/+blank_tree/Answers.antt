@@ -7,13 +7,12 @@ use Rattle.cert_tree.specs.declared.certs.Tree.TheVariants as node
 use Rattle.cert_text.specs.declared.kinds.NodeKind.TheVariants as nodekind
 use Rattle.text_pieces.specs.Languages.{Cat, Blank, Times, Reads}
 use Rattle.text_pieces.specs.Numbers.{Counted}
-use Rattle.cert_text.specs.Grammar.{Index, Modulus, Sum, Multiple, SpellsTree, NodeParts}
-use Rattle.text_pieces.proofs.Lifting.{lift-image, lift-blank, no_blank}
+use Rattle.cert_text.specs.Grammar.{Index, Modulus, Sum, Multiple, SpellsTree}
+use Rattle.text_pieces.proofs.Lifting.{lift-image, no_blank}
 use Rattle.text_pieces.proofs.Chains.{read_next, next_fails, next_unread, last_unread, both}
 use Rattle.cert_text.proofs.Regulars.{regular-index, regular-modulus, regular-sum, regular-multiples}
 use Rattle.std.proofs.Common.{subst, to_z}
 use Rattle.std.proofs.lemmas.Int.{ints}
-use Rattle.cert_text.specs.declared.kinds.NodeKind.{NodeKind}
 use Rattle.text_pieces.specs.Numbers.{IsCount}
 use Rattle.cert_text.specs.Grammar.{NodeWord}
 use Rattle.text_pieces.proofs.Lifting.{lift-then, unreadable_on}
