@@ -6,11 +6,11 @@ use Rattle.lin_base.specs.declared.sums.Lin.{Lin}
 use Rattle.lin_base.specs.Whole.{is_zero}
 use Rattle.lin_base.specs.Sum.{is_reduced}
 use Rattle.lin_base.specs.Fact.{is_ascending}
-use Rattle.cert_text.specs.Languages.{Blank}
-use Rattle.cert_text.specs.Numbers.{Number, Any, Signed128}
+use Rattle.text_pieces.specs.Languages.{Blank}
+use Rattle.text_pieces.specs.Numbers.{Number, Any, Signed128}
 use Rattle.cert_text.specs.Sums.{Term, Terms}
 use Rattle.cert_text.specs.Grammar.{Whole, Sum, Multiple}
-use Rattle.cert_text.specs.Printing.{Adds}
+use Rattle.text_pieces.specs.Printing.{Adds}
 
 -- the unknowns ascend from low on, and no coefficient is 0
 abbrev pub AscendsFrom : ℕ → List (ℕ × ℤ) → Type 0
@@ -32,7 +32,7 @@ pub ascends : (ts : List (ℕ × ℤ)) → is_ascending ts && is_reduced ts ≡ 
 ascends [] h = tt
 ascends (e ∷ ts) h = let both = and_parts _ _ h in ascends_from 0 e ts (omega arith) both.0 both.1
 
-whole_term : (z : ℤ) → (z ≡ pos 0 → ⊥) → Signed128 0 z → Signed128 1 z
+pub whole_term : (z : ℤ) → (z ≡ pos 0 → ⊥) → Signed128 0 z → Signed128 1 z
 whole_term (pos zero) n h = absurd (n refl)
 whole_term (pos (suc k)) n h = record { from_low = omega arith; to_high = h.to_high }
 whole_term (negsuc k) n h = h

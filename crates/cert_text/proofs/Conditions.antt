@@ -21,13 +21,13 @@ use Rattle.cert_text.specs.declared.kinds.NodeKind.{NodeKind}
 use Rattle.cert_text.specs.declared.kinds.NodeKind.TheVariants.{Case, Combine, Cut, Branch, Residues, Solve, Least, Clash}
 use Rattle.cert_text.specs.declared.kinds.RowKind.{RowKind}
 use Rattle.cert_text.specs.declared.kinds.RowKind.TheVariants.{Inst, Low}
-use Rattle.cert_text.specs.Languages.{Blank, Times}
-use Rattle.cert_text.specs.Numbers.{Signed128}
+use Rattle.text_pieces.specs.Languages.{Blank, Times}
+use Rattle.text_pieces.specs.Numbers.{Signed128}
 use Rattle.cert_text.specs.Sums.{Terms, SpellsLin}
 use Rattle.cert_text.specs.Grammar.{RowParts, SpellsRow, NodeParts, Node, TreeWithin, Spells}
 use Rattle.cert_text.specs.Parsing.{Begins}
 use Rattle.cert_text.specs.Spelled.{all_yes, row_is_spelled, node_is_spelled, tree_is_spelled, is_spelled}
-use Rattle.cert_text.proofs.Lists.{length-times}
+use Rattle.text_pieces.proofs.Lists.{length-times}
 use Rattle.cert_text.proofs.Ascending.{AscendsFrom}
 
 and_yes : (a b : Bool) → a ≡ true → b ≡ true → (a && b) ≡ true

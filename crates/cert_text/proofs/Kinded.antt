@@ -1,15 +1,16 @@
 -- The words of nodes and rows.
-use Rattle.std.proofs.Common.{◌≡◌, ℕ, zero, suc, List, [], ◌∷◌, ◌++◌, Option, Some, None, refl, sym, ap, subst, ◌∙◌}
+use Rattle.std.proofs.Common.{◌≡◌, ℕ, zero, suc, List, [], ◌∷◌, ◌++◌, Option, Some, None, refl, sym, ap, subst}
 use Rattle.std.specs.Prelude.{codes, ◌==◌, if◌then◌else◌}
 use Rattle.cert_text.specs.declared.kinds.NodeKind.{NodeKind}
 use Rattle.cert_text.specs.declared.kinds.NodeKind.TheVariants.{Case, Combine, Cut, Branch, Residues, Solve, Least, Clash}
 use Rattle.cert_text.specs.declared.kinds.RowKind.{RowKind}
 use Rattle.cert_text.specs.declared.kinds.RowKind.TheVariants.{Inst, Low}
-use Rattle.cert_text.specs.Languages.{NoDigit, Reads, Fails, Exactly, OneOf}
+use Rattle.text_pieces.specs.Languages.{NoDigit, Reads, Fails, OneOf}
 use Rattle.cert_text.specs.Grammar.{NodeWord, RowWord, node_word, row_word}
 use Rattle.cert_text.specs.Places.{node_words, row_words, node_kind_at, row_kind_at}
-use Rattle.cert_text.proofs.Joining.{OneFront, same_fails, same_reads, drop_front}
-use Rattle.cert_text.proofs.Lifting.{Regular}
+use Rattle.text_pieces.proofs.Joining.{same_fails, same_reads}
+use Rattle.text_pieces.proofs.Lifting.{Regular}
+use Rattle.text_pieces.proofs.WordFronts.{one_front-words}
 
 some_same : {a b : List ℕ} → ◌≡◌ {A = Option (List ℕ)} (Some a) (Some b) → b ≡ a
 some_same h = cc
@@ -60,13 +61,6 @@ pub row_word_reads : (bytes : List ℕ) (place : ℕ) (rest : List ℕ) → Read
 row_word_reads bytes place rest r = same_reads (OneOf row_words) RowWord place (row_kind_at place) (row_forth place) bytes rest r
 
 -- ---- no word begins another
--- words that are told apart by what they begin with
-pub one_front-words : {K : Type 0} (word : K → List ℕ) (guess : List ℕ → K) → ((k : K) (x : List ℕ) → guess (word k ++ x) ≡ k) → OneFront (λ (k : K) (t : List ℕ). t ≡ word k)
-one_front-words word guess known a b t u x y s r h d e =
-    let both : word a ++ x ≡ word b ++ y = ap (λ z. z ++ x) (sym s) ∙ h ∙ ap (λ z. z ++ y) r in
-    let same : a ≡ b = sym (known a x) ∙ ap guess both ∙ known b y in
-    record { value = same; text = s ∙ ap word same ∙ sym r; rest = drop_front (word b) x y (ap (λ k. word k ++ x) (sym same) ∙ both) }
-
 abbrev guess_node : List ℕ → NodeKind
 guess_node (a ∷ b ∷ more) = if a == 99 then (if b == 97 then Case else (if b == 111 then Combine else (if b == 117 then Cut else Clash)))
     else (if a == 98 then Branch else (if a == 114 then Residues else (if a == 115 then Solve else Least)))
@@ -116,11 +110,4 @@ regular-row_word = record {
   one = one_front-words row_word guess_row known_row;
   clear = λ k t s. subst NoDigit (sym s) (clear-row_word k);
   some = record { value = Low; text = codes "low"; spelled = refl };
-}
-
-pub regular-exactly : (word : List ℕ) → NoDigit word → Regular (Exactly word)
-regular-exactly word clear = record {
-  one = λ a b t u x y s r h d e. record { value = refl; text = s ∙ sym r; rest = drop_front word x y (ap (λ z. z ++ x) (sym s) ∙ h ∙ ap (λ z. z ++ y) r) };
-  clear = λ a t s. subst NoDigit (sym s) clear;
-  some = record { value = tt; text = word; spelled = refl };
 }

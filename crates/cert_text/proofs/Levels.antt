@@ -3,8 +3,8 @@ use Rattle.std.proofs.Common.{◌≡◌, ℕ, zero, suc, ◌+◌, List, [], ◌�
 use Rattle.cert_tree.specs.declared.certs.Tree.{Tree}
 use Rattle.cert_text.specs.declared.kinds.NodeKind.{NodeKind}
 use Rattle.cert_text.specs.declared.kinds.NodeKind.TheVariants.{Case, Combine, Cut, Branch, Residues, Solve, Least, Clash}
-use Rattle.cert_text.specs.Languages.{Cat, Blank, Image, Times}
-use Rattle.cert_text.specs.Numbers.{Number, Any, Counted}
+use Rattle.text_pieces.specs.Languages.{Cat, Blank, Image, Times}
+use Rattle.text_pieces.specs.Numbers.{Number, Any, Counted}
 use Rattle.cert_text.specs.Grammar.{Index, Modulus, Sum, Multiple, NodeWord, NodeParts, Node, TreeWithin, SpellsTree}
 
 -- ---- languages that grow to one

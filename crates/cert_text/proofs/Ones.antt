@@ -16,50 +16,12 @@ use Rattle.cert_text.specs.declared.kinds.NodeKind.{NodeKind}
 use Rattle.cert_text.specs.declared.kinds.NodeKind.TheVariants.{Case, Combine, Cut, Branch, Residues, Solve, Least, Clash}
 use Rattle.cert_text.specs.declared.kinds.RowKind.{RowKind}
 use Rattle.cert_text.specs.declared.kinds.RowKind.TheVariants.{Inst, Low}
-use Rattle.cert_text.specs.Decimals.{decimal, signed_decimal}
-use Rattle.cert_text.specs.Languages.{Cat, Blank, Exactly, Times}
-use Rattle.cert_text.specs.Numbers.{Number, Within, Any, Signed, Signed128, Counted}
+use Rattle.text_pieces.specs.Decimals.{decimal, signed_decimal}
+use Rattle.text_pieces.specs.Languages.{Cat, Blank, Exactly, Times}
+use Rattle.text_pieces.specs.Numbers.{Number, Within, Any, Signed, Signed128, Counted}
 use Rattle.cert_text.specs.Sums.{Terms, SpellsLin}
 use Rattle.cert_text.specs.Grammar.{Index, Whole, Modulus, Sum, Multiple, RowParts, SpellsRow, row_word, NodeParts, Node, TreeWithin, SpellsTree, node_word, Spells}
-use Rattle.cert_text.proofs.Lists.{length-times}
-
--- ---- the one text that a language has for a value, where it has one
-abbrev Texts : {A : Type 0} → (A → List ℕ → Type 0) → (A → List ℕ) → Type 0
-Texts {A} L f = (a : A) (t : List ℕ) → L a t → t ≡ f a
-
-text-cat : {A B : Type 0} (L : A → List ℕ → Type 0) (M : A → B → List ℕ → Type 0) (f : A → List ℕ) (g : A → B → List ℕ) → Texts L f → ((a : A) → Texts (M a) (g a))
-    → Texts (Cat L M) (λ p. f p.0 ++ g p.0 p.1)
-text-cat L M f g l m p t s = s.joined ∙ ap (λ z. z ++ s.second) (l p.0 s.first s.first_spelled) ∙ ap (λ z. f p.0 ++ z) (m p.0 p.1 s.second s.second_spelled)
-
-text-blank : {A : Type 0} (L : A → List ℕ → Type 0) (f : A → List ℕ) → Texts L f → Texts (Blank L) (λ a. 32 ∷ f a)
-text-blank L f l a t s = s.joined ∙ ap (λ z. 32 ∷ z) (l a s.behind s.spelled)
-
-text-number : (In : ℕ → Type 0) → Texts (Number In) decimal
-text-number In n t s = s.digits
-
-text-signed : (In : ℤ → Type 0) → Texts (Signed In) signed_decimal
-text-signed In z t s = s.digits
-
-abbrev each_text : {A : Type 0} → (A → List ℕ) → List A → List ℕ
-each_text f [] = []
-each_text f (x ∷ xs) = f x ++ each_text f xs
-
-text-times : {A : Type 0} (L : A → List ℕ → Type 0) (f : A → List ℕ) → Texts L f → (n : ℕ) → Texts (Times L n) (each_text f)
-text-times L f l zero [] t s = s
-text-times L f l zero (x ∷ xs) t s = absurd s
-text-times L f l (suc n) [] t s = absurd s
-text-times L f l (suc n) (x ∷ xs) t s = s.joined ∙ ap (λ z. z ++ s.second) (l x s.first s.first_spelled) ∙ ap (λ z. f x ++ z) (text-times L f l n xs s.second s.second_spelled)
-
-abbrev counted_text : {A : Type 0} → (A → List ℕ) → List A → List ℕ
-counted_text f xs = (32 ∷ decimal (length xs)) ++ each_text f xs
-
-text-counted : {A : Type 0} (L : A → List ℕ → Type 0) (f : A → List ℕ) → Texts L f → Texts (Counted L) (counted_text f)
-text-counted {A} L f l xs t s =
-    let c = s.spelled in
-    let n = s.from.0 in
-    let count : n ≡ length (s.from.1) = sym (length-times L n (s.from.1) c.second c.second_spelled) in
-    text-cat (Blank (Number Any)) (Times L) (λ k. 32 ∷ decimal k) (λ k. each_text f) (text-blank (Number Any) decimal (text-number Any)) (text-times L f l) s.from t c
-    ∙ ap (λ k. (32 ∷ decimal k) ++ each_text f (s.from.1)) count ∙ ap (counted_text f) (sym s.is)
+use Rattle.text_pieces.proofs.OneText.{Texts, text-cat, text-blank, text-number, text-signed, each_text, text-times, counted_text, text-counted}
 
 -- ---- parts
 abbrev index_text : ℕ → List ℕ

@@ -1,9 +1,8 @@
 -- Rows, nodes and certificates put behind a text, part by part.
-use Rattle.std.proofs.Common.{◌≡◌, ℕ, ◌+◌, ◌<◌, ℤ, pos, Bool, true, List, [], ◌∷◌, ◌++◌, length, map, take, get_or, refl, sym, ap, subst, ◌∙◌, append_assoc, arith, IsTrue}
+use Rattle.std.proofs.Common.{◌≡◌, ℕ, ℤ, pos, Bool, true, List, [], ◌∷◌, ◌++◌, length, map, refl, sym, ap, subst, ◌∙◌, append_assoc, arith, IsTrue}
 use Rattle.std.specs.Prelude.{codes, ◌&&◌, ◌-ℤ◌}
 use Rattle.std.specs.List.{list_all}
 use Rattle.std.proofs.lemmas.Int.{ints}
-use Rattle.std.proofs.lemmas.List.{take_more}
 use Rattle.lin_base.specs.declared.sums.Lin.{Lin}
 use Rattle.lin_base.specs.Whole.{is_same}
 use Rattle.lin_base.proofs.Ring.{is_zero_out}
@@ -16,23 +15,13 @@ use Rattle.cert_text.specs.declared.kinds.NodeKind.{NodeKind}
 use Rattle.cert_text.specs.declared.kinds.NodeKind.TheVariants.{Case, Combine, Cut, Branch, Residues, Solve, Least, Clash}
 use Rattle.cert_text.specs.declared.kinds.RowKind.{RowKind}
 use Rattle.cert_text.specs.declared.kinds.RowKind.TheVariants.{Inst, Low}
-use Rattle.cert_text.specs.Languages.{Cat, Blank, Image, Exactly, Times}
-use Rattle.cert_text.specs.Numbers.{Counted}
-use Rattle.cert_text.specs.Grammar.{Index, Whole, Modulus, Sum, Multiple, RowWord, RowParts, SpellsRow, row_word, NodeWord, NodeParts, SpellsTree, node_word, cert_of, Spells}
-use Rattle.cert_text.specs.Printing.{Adds}
+use Rattle.text_pieces.specs.Languages.{Cat, Blank, Exactly, Times}
+use Rattle.text_pieces.specs.Numbers.{Counted}
+use Rattle.cert_text.specs.Grammar.{Index, Whole, Modulus, Sum, Multiple, RowWord, RowParts, SpellsRow, row_word, NodeParts, SpellsTree, node_word, cert_of, Spells}
+use Rattle.text_pieces.specs.Printing.{Adds}
 use Rattle.cert_text.specs.Spelled.{all_yes, tree_is_spelled}
-use Rattle.cert_text.proofs.Adding.{adds-cat, adds-more, take_whole}
+use Rattle.text_pieces.proofs.Adding.{adds-cat, adds-image}
 use Rattle.cert_text.proofs.Levels.{from_node}
-
-pub adds-image : {A B : Type 0} (f : A → B) (L : A → List ℕ → Type 0) (a : A) (x y : List ℕ) → Adds L a x y → Adds (Image f L) (f a) x y
-adds-image f L a x y r = record { text = r.text; spelled = record { from = a; is = refl; spelled = r.spelled }; is = r.is }
-
-pub adds-blank : {A : Type 0} (L : A → List ℕ → Type 0) (a : A) (x y z : List ℕ) → y ≡ x ++ codes " " → Adds L a y z → Adds (Blank L) a x z
-adds-blank L a x y z e r = record {
-  text = 32 ∷ r.text;
-  spelled = record { behind = r.text; spelled = r.spelled; joined = refl };
-  is = r.is ∙ ap (λ t. t ++ r.text) e ∙ append_assoc x (codes " ") r.text;
-}
 
 -- ---- rows
 adds-row : (kind : RowKind) (a : Row) (x y z : List ℕ) → y ≡ x ++ row_word kind → Adds (RowParts kind) a y z → Adds SpellsRow a x z
@@ -53,28 +42,38 @@ adds-low clause x j o p q r s e c i k =
     (adds-cat Index (λ clause. Cat Index (λ x. Whole)) clause (x, j) p q s c (adds-cat Index (λ x. Whole) x j q r s i k)))
 
 -- ---- trees
-adds-node : (kind : NodeKind) (a : Tree) (x y z : List ℕ) → y ≡ x ++ node_word kind → Adds (NodeParts SpellsTree kind) a y z → Adds SpellsTree a x z
-adds-node kind a x y z e r =
-    let both = adds-cat NodeWord (NodeParts SpellsTree) kind a x y z (record { text = node_word kind; spelled = refl; is = e }) r in
-    record { text = both.text; spelled = from_node a both.text (record { from = (kind, a); is = refl; spelled = both.spelled }); is = both.is }
+adds-node : (kind : NodeKind) (a : Tree) (x y z : List ℕ) → y ≡ x ++ 32 ∷ node_word kind → Adds (NodeParts SpellsTree kind) a y z → Adds (Blank SpellsTree) a x z
+adds-node kind a x y z e r = record {
+  text = 32 ∷ (node_word kind ++ r.text);
+  spelled = record {
+    behind = node_word kind ++ r.text;
+    spelled = from_node a (node_word kind ++ r.text) (record {
+      from = (kind, a);
+      is = refl;
+      spelled = record { first = node_word kind; second = r.text; first_spelled = refl; second_spelled = r.spelled; joined = refl };
+    });
+    joined = refl;
+  };
+  is = r.is ∙ ap (λ t. t ++ r.text) e ∙ append_assoc x (32 ∷ node_word kind) r.text;
+}
 
-pub adds-case : (n : ℕ) (ts : List Tree) (o p q r : List ℕ) → p ≡ o ++ codes "case" → Adds Index n p q → Adds (Counted (Blank SpellsTree)) ts q r → Adds SpellsTree (node.Case n ts) o r
+pub adds-case : (n : ℕ) (ts : List Tree) (o p q r : List ℕ) → p ≡ o ++ codes " case" → Adds Index n p q → Adds (Counted (Blank SpellsTree)) ts q r → Adds (Blank SpellsTree) (node.Case n ts) o r
 adds-case n ts o p q r e i t =
     adds-node Case (node.Case n ts) o p r e
     (adds-image (λ (p : ℕ × List Tree). node.Case p.0 p.1) (Cat Index (λ clause. Counted (Blank SpellsTree))) (n, ts) p r (adds-cat Index (λ clause. Counted (Blank SpellsTree)) n ts p q r i t))
 
-pub adds-combine : (list : List (ℕ × ℤ)) (u : Tree) (o p q r : List ℕ) → p ≡ o ++ codes "combine" → Adds (Counted Multiple) list p q → Adds (Blank SpellsTree) u q r → Adds SpellsTree (node.Combine list u) o r
+pub adds-combine : (list : List (ℕ × ℤ)) (u : Tree) (o p q r : List ℕ) → p ≡ o ++ codes " combine" → Adds (Counted Multiple) list p q → Adds (Blank SpellsTree) u q r → Adds (Blank SpellsTree) (node.Combine list u) o r
 adds-combine list u o p q r e i t =
     adds-node Combine (node.Combine list u) o p r e
     (adds-image (λ (p : List (ℕ × ℤ) × Tree). node.Combine p.0 p.1) (Cat (Counted Multiple) (λ list. Blank SpellsTree)) (list, u) p r
     (adds-cat (Counted Multiple) (λ list. Blank SpellsTree) list u p q r i t))
 
-pub adds-cut : (n : ℕ) (u : Tree) (o p q r : List ℕ) → p ≡ o ++ codes "cut" → Adds Index n p q → Adds (Blank SpellsTree) u q r → Adds SpellsTree (node.Cut n u) o r
+pub adds-cut : (n : ℕ) (u : Tree) (o p q r : List ℕ) → p ≡ o ++ codes " cut" → Adds Index n p q → Adds (Blank SpellsTree) u q r → Adds (Blank SpellsTree) (node.Cut n u) o r
 adds-cut n u o p q r e i t =
     adds-node Cut (node.Cut n u) o p r e
     (adds-image (λ (p : ℕ × Tree). node.Cut p.0 p.1) (Cat Index (λ fact. Blank SpellsTree)) (n, u) p r (adds-cat Index (λ fact. Blank SpellsTree) n u p q r i t))
 
-pub adds-branch : (t : Lin) (u v : Tree) (o p q r s : List ℕ) → p ≡ o ++ codes "branch" → Adds Sum t p q → Adds (Blank SpellsTree) u q r → Adds (Blank SpellsTree) v r s → Adds SpellsTree (node.Branch t u v) o s
+pub adds-branch : (t : Lin) (u v : Tree) (o p q r s : List ℕ) → p ≡ o ++ codes " branch" → Adds Sum t p q → Adds (Blank SpellsTree) u q r → Adds (Blank SpellsTree) v r s → Adds (Blank SpellsTree) (node.Branch t u v) o s
 adds-branch t u v o p q r s e i a b =
     adds-node Branch (node.Branch t u v) o p s e
     (adds-image (λ (p : Lin × (Tree × Tree)). node.Branch p.0 (p.1.0) (p.1.1)) (Cat Sum (λ t. Cat (Blank SpellsTree) (λ left. Blank SpellsTree))) (t, (u, v)) p s
@@ -86,28 +85,28 @@ adds-modulus k x y r =
     let n = w.spelled in
     record { text = r.text; spelled = record { behind = w.behind; spelled = record { is_in = n.is_in; digits = n.digits }; joined = w.joined }; is = r.is }
 
-pub adds-residues : (m : ℤ) (t : Lin) (ts : List Tree) (o p q r s : List ℕ) → m ≡ pos (length ts) → p ≡ o ++ codes "residues" → Adds Whole m p q → Adds Sum t q r → Adds (Times (Blank SpellsTree) (length ts)) ts r s
-    → Adds SpellsTree (node.Residues m t ts) o s
+pub adds-residues : (m : ℤ) (t : Lin) (ts : List Tree) (o p q r s : List ℕ) → m ≡ pos (length ts) → p ≡ o ++ codes " residues" → Adds Whole m p q → Adds Sum t q r → Adds (Times (Blank SpellsTree) (length ts)) ts r s
+    → Adds (Blank SpellsTree) (node.Residues m t ts) o s
 adds-residues m t ts o p q r s count e i l c =
     let k = length ts in
     let modulus = adds-modulus k p q (subst (λ z. Adds Whole z p q) count i) in
-    subst (λ z. Adds SpellsTree (node.Residues z t ts) o s) (sym count)
+    subst (λ z. Adds (Blank SpellsTree) (node.Residues z t ts) o s) (sym count)
     (adds-node Residues (node.Residues (pos k) t ts) o p s e
     (adds-image (λ (p : ℕ × (Lin × List Tree)). node.Residues (pos p.0) (p.1.0) (p.1.1)) (Cat Modulus (λ m. Cat Sum (λ t. Times (Blank SpellsTree) m))) (k, (t, ts)) p s
     (adds-cat Modulus (λ m. Cat Sum (λ t. Times (Blank SpellsTree) m)) k (t, ts) p q s modulus (adds-cat Sum (λ t. Times (Blank SpellsTree) k) t ts q r s l c))))
 
-pub adds-solve : (n x : ℕ) (u : Tree) (o p q r s : List ℕ) → p ≡ o ++ codes "solve" → Adds Index n p q → Adds Index x q r → Adds (Blank SpellsTree) u r s → Adds SpellsTree (node.Solve n x u) o s
+pub adds-solve : (n x : ℕ) (u : Tree) (o p q r s : List ℕ) → p ≡ o ++ codes " solve" → Adds Index n p q → Adds Index x q r → Adds (Blank SpellsTree) u r s → Adds (Blank SpellsTree) (node.Solve n x u) o s
 adds-solve n x u o p q r s e i j t =
     adds-node Solve (node.Solve n x u) o p s e
     (adds-image (λ (p : ℕ × (ℕ × Tree)). node.Solve p.0 (p.1.0) (p.1.1)) (Cat Index (λ fact. Cat Index (λ p. Blank SpellsTree))) (n, (x, u)) p s
     (adds-cat Index (λ fact. Cat Index (λ p. Blank SpellsTree)) n (x, u) p q s i (adds-cat Index (λ p. Blank SpellsTree) x u q r s j t)))
 
-pub adds-least : (n : ℕ) (ts : List Tree) (o p q r : List ℕ) → p ≡ o ++ codes "least" → Adds Index n p q → Adds (Counted (Blank SpellsTree)) ts q r → Adds SpellsTree (node.Least n ts) o r
+pub adds-least : (n : ℕ) (ts : List Tree) (o p q r : List ℕ) → p ≡ o ++ codes " least" → Adds Index n p q → Adds (Counted (Blank SpellsTree)) ts q r → Adds (Blank SpellsTree) (node.Least n ts) o r
 adds-least n ts o p q r e i t =
     adds-node Least (node.Least n ts) o p r e
     (adds-image (λ (p : ℕ × List Tree). node.Least p.0 p.1) (Cat Index (λ p. Counted (Blank SpellsTree))) (n, ts) p r (adds-cat Index (λ p. Counted (Blank SpellsTree)) n ts p q r i t))
 
-pub adds-clash : (n : ℕ) (o p q : List ℕ) → p ≡ o ++ codes "clash" → Adds Index n p q → Adds SpellsTree (node.Clash n) o q
+pub adds-clash : (n : ℕ) (o p q : List ℕ) → p ≡ o ++ codes " clash" → Adds Index n p q → Adds (Blank SpellsTree) (node.Clash n) o q
 adds-clash n o p q e i = adds-node Clash (node.Clash n) o p q e (adds-image node.Clash Index n p q i)
 
 -- ---- certificates
@@ -124,17 +123,6 @@ each_of test (x ∷ xs) = ap (λ b. test x && b) (each_of test xs)
 
 pub each_tree : (ts : List Tree) → IsTrue (all_yes (map tree_is_spelled ts)) → IsTrue (list_all tree_is_spelled ts)
 each_tree ts h = sym (each_of tree_is_spelled ts) ∙ h
-
--- one more of a list was put
-pub adds-item : {A : Type 0} (L : A → List ℕ → Type 0) (xs : List A) (i : ℕ) (a : A) (x y z : List ℕ) → i < length xs → a ≡ get_or xs i a → Adds (Times L i) (take i xs) x y → Adds L a y z → Adds (Times L (i + 1)) (take (i + 1) xs) x z
-adds-item L xs i a x y z l e r s =
-    let one_more : take (i + 1) xs ≡ take i xs ++ a ∷ [] = take_more xs i a l ∙ ap (λ b. take i xs ++ b ∷ []) (sym e) in
-    subst (λ t. Adds (Times L (i + 1)) t x z) (sym one_more) (adds-more L i (take i xs) a x y z r s)
-
--- and all of it
-pub adds-all : {A : Type 0} (L : A → List ℕ → Type 0) (xs : List A) (i : ℕ) (x y : List ℕ) → i ≡ length xs → Adds (Times L i) (take i xs) x y → Adds (Times L (length xs)) xs x y
-adds-all L xs i x y e r =
-    subst (λ t. Adds (Times L (length xs)) t x y) (take_whole (length xs) xs (omega arith)) (subst (λ n. Adds (Times L n) (take n xs) x y) e r)
 
 pub same_out : (n : ℕ) (m : ℤ) → is_same (pos n) m ≡ true → m ≡ pos n
 same_out n m h = let z = is_zero_out (pos n -ℤ m) h in omega (arith, ints, z)

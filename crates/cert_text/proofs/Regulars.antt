@@ -3,17 +3,17 @@ use Rattle.std.proofs.Common.{◌-◌, ◌^◌, arith}
 use Rattle.cert_tree.specs.declared.certs.Row.{Row}
 use Rattle.cert_text.specs.declared.kinds.RowKind.{RowKind}
 use Rattle.cert_text.specs.declared.kinds.RowKind.TheVariants.{Inst, Low}
-use Rattle.cert_text.specs.Languages.{Cat, Blank}
-use Rattle.cert_text.specs.Numbers.{Number, Within, Word32, Signed, Signed128, Counted}
+use Rattle.text_pieces.specs.Languages.{Cat, Blank}
+use Rattle.text_pieces.specs.Numbers.{Number, Within, Word32, Signed, Signed128, Counted}
 use Rattle.cert_text.specs.Sums.{SpellsLin}
 use Rattle.cert_text.specs.Grammar.{Index, Whole, Modulus, Sum, Multiple, RowWord, RowParts, SpellsRow}
-use Rattle.cert_text.proofs.Reaching.{one_front-number, has_one-number}
-use Rattle.cert_text.proofs.Negatives.{one_front-signed, has_one-signed}
+use Rattle.text_pieces.proofs.Reaching.{one_front-number, has_one-number}
+use Rattle.text_pieces.proofs.Negatives.{one_front-signed, has_one-signed}
 use Rattle.cert_text.proofs.Rooms.{one_front-lin, has_one-lin}
-use Rattle.cert_text.proofs.Lifting.{Regular, regular-blank, regular-image}
-use Rattle.cert_text.proofs.Lists.{regular-counted}
+use Rattle.text_pieces.proofs.Lifting.{Regular, regular-blank, regular-image}
+use Rattle.text_pieces.proofs.Lists.{regular-counted}
 use Rattle.cert_text.proofs.Kinded.{regular-row_word}
-use Rattle.cert_text.proofs.Chains.{both}
+use Rattle.text_pieces.proofs.Chains.{both}
 
 pub regular-index : Regular Index
 regular-index = regular-blank (Number Word32) (one_front-number Word32) (has_one-number Word32 0 (record { from_low = omega arith; to_high = omega arith }))

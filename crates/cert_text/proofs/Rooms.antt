@@ -1,13 +1,13 @@
 -- Linear sums: each unknown leaves room for those behind it.
 use Rattle.std.proofs.Common.{◌≡◌, ℕ, zero, suc, ◌+◌, ◌-◌, ◌^◌, ◌<◌, ◌≤◌, List, [], ◌∷◌, ◌++◌, ℤ, refl, sym, ap, subst, ◌∙◌, append_assoc, append-nil, arith}
-use Rattle.cert_text.specs.Decimals.{decimal}
-use Rattle.cert_text.specs.Languages.{NoDigit, Reads, Fails, Cat, Blank}
-use Rattle.cert_text.specs.Numbers.{Number, Within, Any, Signed, Signed128}
+use Rattle.text_pieces.specs.Decimals.{decimal}
+use Rattle.text_pieces.specs.Languages.{NoDigit, Reads, Fails, Cat, Blank}
+use Rattle.text_pieces.specs.Numbers.{Number, Within, Any, Signed, Signed128}
 use Rattle.cert_text.specs.Sums.{Term, Terms, RoomTerms, SpellsLin, lin_of}
-use Rattle.cert_text.proofs.Joining.{StartsClear, HasOne, OneFront, clear-blank, has_one-blank, one_front-blank, cat_fails_first, one_front-cat, same_fails, same_reads}
-use Rattle.cert_text.proofs.Lifting.{Lift, lift-then, lift-cat, lift-image, clear-cat, one_front-image}
-use Rattle.cert_text.proofs.Reaching.{one_front-number}
-use Rattle.cert_text.proofs.Negatives.{one_front-signed, has_one-signed}
+use Rattle.text_pieces.proofs.Joining.{StartsClear, HasOne, OneFront, clear-blank, has_one-blank, one_front-blank, cat_fails_first, one_front-cat, same_fails, same_reads}
+use Rattle.text_pieces.proofs.Lifting.{Lift, lift-then, lift-cat, lift-image, clear-cat, one_front-image}
+use Rattle.text_pieces.proofs.Reaching.{one_front-number}
+use Rattle.text_pieces.proofs.Negatives.{one_front-signed, has_one-signed}
 
 -- ---- one term
 abbrev Unknown : ℕ → ℕ → ℕ → List ℕ → Type 0

@@ -1,20 +1,20 @@
 -- Trees are read in one way alone.
-use Rattle.std.proofs.Common.{ℕ, zero, suc, List, ◌∷◌, ◌++◌, refl, sym, ap, subst, ◌∙◌}
+use Rattle.std.proofs.Common.{◌≡◌, ℕ, zero, suc, List, ◌∷◌, ◌++◌, refl, sym, ap, subst, ◌∙◌}
 use Rattle.cert_tree.specs.declared.certs.Tree.{Tree}
 use Rattle.cert_tree.specs.declared.certs.Tree.TheVariants as node
 use Rattle.cert_text.specs.declared.kinds.NodeKind.{NodeKind}
 use Rattle.cert_text.specs.declared.kinds.NodeKind.TheVariants.{Case, Combine, Cut, Branch, Residues, Solve, Least, Clash}
 use Rattle.std.specs.Prelude.{codes}
-use Rattle.cert_text.specs.Languages.{Cat, Blank, Image, Times}
-use Rattle.cert_text.specs.Numbers.{Number, Any, Counted}
+use Rattle.text_pieces.specs.Languages.{Cat, Blank, Image, Times}
+use Rattle.text_pieces.specs.Numbers.{Number, Any, Counted}
 use Rattle.cert_text.specs.Grammar.{NodeWord, NodeParts, Node, TreeWithin, SpellsTree}
-use Rattle.cert_text.proofs.Joining.{StartsClear, HasOne, OneFront, clear-blank, one_front-blank, one_front-cat, same_fails, same_reads}
-use Rattle.cert_text.proofs.Lifting.{Lift, Regular, regular-blank, regular-image, clear-cat, one_front-image}
-use Rattle.cert_text.proofs.Lists.{split-times, regular-counted, regular-times, one_front-none, clear-none}
-use Rattle.cert_text.proofs.Reaching.{one_front-number}
+use Rattle.text_pieces.proofs.Joining.{StartsClear, HasOne, OneFront, clear-blank, one_front-blank, one_front-cat, same_fails, same_reads}
+use Rattle.text_pieces.proofs.Lifting.{Lift, lift-then, lift-blank, lift-image, Regular, regular-blank, regular-image, clear-cat, one_front-image}
+use Rattle.text_pieces.proofs.Lists.{split-times, regular-counted, regular-times, one_front-none, clear-none}
+use Rattle.text_pieces.proofs.Reaching.{one_front-number}
 use Rattle.cert_text.proofs.Kinded.{regular-node_word}
 use Rattle.cert_text.proofs.Regulars.{regular-index, regular-modulus, regular-sum, regular-multiples}
-use Rattle.cert_text.proofs.Chains.{both}
+use Rattle.text_pieces.proofs.Chains.{both}
 use Rattle.cert_text.proofs.Levels.{limit-tree, from_node, to_node, raised, above, above_swap}
 
 -- as Regular, of a language that may be empty
@@ -125,3 +125,7 @@ tree_node bytes = record {
   fails = λ left f. same_fails (Node SpellsTree) SpellsTree (λ a t s. (a, from_node a t s)) (λ a t s. (a, to_node a t s)) bytes left f;
   reads = λ a rest r. same_reads (Node SpellsTree) SpellsTree a a (from_node a) bytes rest r;
 }
+
+-- from a tree behind a blank to the parts of its node
+pub blank_node : (bytes behind : List ℕ) → bytes ≡ 32 ∷ behind → Lift (Blank SpellsTree) bytes (Cat NodeWord (NodeParts SpellsTree)) behind (λ (p : NodeKind × Tree). p.1)
+blank_node bytes behind e = lift-then (lift-blank SpellsTree bytes behind e) (lift-then (tree_node behind) (lift-image (λ (p : NodeKind × Tree). p.1) (Cat NodeWord (NodeParts SpellsTree)) behind))

@@ -4,17 +4,17 @@ use Rattle.std.specs.Prelude.{codes}
 use Rattle.std.proofs.lemmas.List.{take-append-drop}
 use Rattle.std.proofs.Math.Seq.{take-append_seam, drop-append_seam}
 use Rattle.cert_tree.specs.declared.certs.Cert.{Cert}
-use Rattle.cert_text.specs.Decimals.{is_digit}
-use Rattle.cert_text.specs.Languages.{NoDigit, GoesOn, Reads, StopsAt, Fails, Blank, Exactly}
-use Rattle.cert_text.specs.Numbers.{Counted}
+use Rattle.text_pieces.specs.Decimals.{is_digit}
+use Rattle.text_pieces.specs.Languages.{NoDigit, GoesOn, Reads, StopsAt, Fails, Blank, Exactly}
+use Rattle.text_pieces.specs.Numbers.{Counted}
 use Rattle.cert_text.specs.Grammar.{SpellsRow, Spells, cert_of}
 use Rattle.cert_text.specs.Parsing.{Begins, NoneBegins}
-use Rattle.cert_text.proofs.Lifting.{Regular, regular-image}
-use Rattle.cert_text.proofs.Lists.{regular-counted}
-use Rattle.cert_text.proofs.Kinded.{regular-exactly}
+use Rattle.text_pieces.proofs.Lifting.{Regular, regular-image}
+use Rattle.text_pieces.proofs.Lists.{regular-counted}
+use Rattle.text_pieces.proofs.WordFronts.{regular-exactly}
 use Rattle.cert_text.proofs.Regulars.{regular-blank_row}
 use Rattle.cert_text.proofs.Sure.{regular-blank_tree}
-use Rattle.cert_text.proofs.Chains.{both}
+use Rattle.text_pieces.proofs.Chains.{both}
 
 pub regular-rows : Regular (Counted (Blank SpellsRow))
 regular-rows = regular-counted (Blank SpellsRow) regular-blank_row

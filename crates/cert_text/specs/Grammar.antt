@@ -10,8 +10,8 @@ use Rattle.cert_text.specs.declared.kinds.NodeKind.{NodeKind}
 use Rattle.cert_text.specs.declared.kinds.NodeKind.TheVariants.{Case, Combine, Cut, Branch, Residues, Solve, Least, Clash}
 use Rattle.cert_text.specs.declared.kinds.RowKind.{RowKind}
 use Rattle.cert_text.specs.declared.kinds.RowKind.TheVariants.{Inst, Low}
-use Rattle.cert_text.specs.Languages.{Cat, Blank, Image, Exactly, Times}
-use Rattle.cert_text.specs.Numbers.{Number, Within, Word32, Signed, Signed128, Counted}
+use Rattle.text_pieces.specs.Languages.{Cat, Blank, Image, Exactly, Times}
+use Rattle.text_pieces.specs.Numbers.{Number, Within, Word32, Signed, Signed128, Counted}
 use Rattle.cert_text.specs.Sums.{SpellsLin}
 
 -- ---- parts

@@ -1,11 +1,6 @@
-pub mod Decimals
-pub mod Languages
-pub mod Numbers
-pub mod Failing
 pub mod Sums
 pub mod Grammar
 pub mod Places
-pub mod Counting
 pub mod Parsing
-pub mod Printing
 pub mod Spelled
+pub mod Ranges

@@ -3,7 +3,7 @@ use Rattle.std.specs.Prelude.{ℕ, ◌+◌, ◌<◌, ◌≤◌, List, length, ta
 use Rattle.cert_tree.specs.declared.certs.Cert.{Cert}
 use Rattle.cert_text.specs.declared.certs.TextError.{TextError}
 use Rattle.cert_text.specs.declared.certs.TextError.TheVariants.{Memory, BadText as Bad}
-use Rattle.cert_text.specs.Languages.{NoDigit, GoesOn}
+use Rattle.text_pieces.specs.Languages.{NoDigit, GoesOn}
 use Rattle.cert_text.specs.Grammar.{Spells}
 
 -- the first bytes, so many, spell the certificate, and no digit follows them

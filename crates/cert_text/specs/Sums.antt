@@ -1,8 +1,8 @@
 -- The texts of linear sums: the number of terms, the terms by ascending unknown, and the constant.
 use Rattle.std.specs.Prelude.{◌≡◌, ℕ, zero, suc, ◌-◌, ◌^◌, ℤ, List, [], ◌∷◌}
 use Rattle.lin_base.specs.declared.sums.Lin.{Lin}
-use Rattle.cert_text.specs.Languages.{Cat, Blank, Image}
-use Rattle.cert_text.specs.Numbers.{Number, Within, Any, Signed, Signed128}
+use Rattle.text_pieces.specs.Languages.{Cat, Blank, Image}
+use Rattle.text_pieces.specs.Numbers.{Number, Within, Any, Signed, Signed128}
 
 -- an unknown within these bounds and its coefficient, which isn't 0
 abbrev pub Term : ℕ → ℕ → ℕ × ℤ → List ℕ → Type 0

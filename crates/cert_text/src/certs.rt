@@ -1,22 +1,21 @@
 //! The text of certificates.
 
-ghost use Rattle.std.specs.Prelude.{◌≡◌, MatchResult, IsTrue, IfOk, OnOk};
-ghost use Rattle.cert_text.specs.Languages.{Reads};
-ghost use Rattle.cert_text.specs.Failing.{Unreadable};
+ghost use Rattle.std.specs.Prelude.{◌≡◌, MatchResult, IsTrue, IfOk};
+ghost use Rattle.text_pieces.specs.Languages.{Reads};
+ghost use Rattle.text_pieces.specs.Failing.{Unreadable};
 ghost use Rattle.cert_text.specs.Grammar.{Spells};
-ghost use Rattle.cert_text.specs.Printing.{Adds};
+ghost use Rattle.text_pieces.specs.Printing.{Puts};
 ghost use Rattle.cert_text.specs.Spelled.{is_spelled};
 ghost use Rattle.cert_text.specs.Parsing.{Begins, WhereBad};
 ghost use Rattle.cert_text.specs.declared.certs.TextError.TheVariants as text;
 
-use crate::bad_texts::Unread;
 use crate::parts::rows;
-use crate::printing::{push, push_rows};
+use crate::printing::push_rows;
 use crate::tree_printing::push_blank_tree;
 use crate::trees::blank_tree;
-use crate::words::exactly;
 use cert_tree::Cert;
 use std::alloc::{AllocError, Global};
+use text_pieces::{Unread, exactly, push};
 use thiserror::Error;
 
 /// No spelling begins the bytes.
@@ -38,8 +37,8 @@ pub enum TextError {
     BadText(BadText),
 }
 
-// The certificate in front of the bytes, and what follows.
-fn cert(alloc: Global, text: &[u8]) -> Result<(Cert, &[u8]), Unread>
+/// The certificate in front of the bytes, and what follows. Bad at the first byte with which none goes on.
+pub fn cert(alloc: Global, text: &[u8]) -> Result<(Cert, &[u8]), Unread>
     ensures { MatchResult result (λ f. Reads Spells text.now f.0 f.1.now) (Unreadable Spells text.now) }
 {
     let behind = exactly(text, b"cert")?;
@@ -66,7 +65,7 @@ pub fn parse_cert(alloc: Global, bytes: &[u8]) -> Result<(Cert, u64), TextError>
 /// Puts a certificate behind the text.
 pub fn push_cert(alloc: Global, text: &mut Vec<u8>, cert: &Cert) -> Result<(), AllocError>
     requires { IsTrue (is_spelled cert.now) }
-    ensures { OnOk result (Adds Spells cert.now text.old.items text.new.items) }
+    ensures { Puts Spells cert.now text.old.items text.new.items result }
 {
     push(text, b"cert")?;
     push_rows(alloc, text, cert.rows.as_slice())?;

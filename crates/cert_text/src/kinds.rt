@@ -1,12 +1,11 @@
 //! The words of rows and nodes.
 
 ghost use Rattle.std.specs.Prelude.{◌≡◌, MatchResult};
-ghost use Rattle.cert_text.specs.Languages.{Reads, Fails};
+ghost use Rattle.text_pieces.specs.Languages.{Reads, Fails};
 ghost use Rattle.cert_text.specs.Grammar.{NodeWord, RowWord};
 ghost use Rattle.cert_text.specs.Places.{node_kind_at, row_kind_at};
 
-use crate::bad_texts::Bad;
-use crate::words::one_of;
+use text_pieces::{Bad, one_of};
 
 /// What kind of row a word tells.
 #[derive(Clone, Copy, Debug, PartialEq, Eq)]

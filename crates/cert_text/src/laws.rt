@@ -2,9 +2,11 @@
 
 ghost use Rattle.std.specs.Prelude.{◌≡◌, ℕ, List, ◌∷◌, ◌++◌, true, IsTrue};
 ghost use Rattle.cert_tree.specs.declared.certs.Cert.{Cert};
-ghost use Rattle.cert_text.specs.Decimals.{is_digit};
+ghost use Rattle.text_pieces.specs.Decimals.{is_digit};
 ghost use Rattle.cert_text.specs.Grammar.{Spells};
+ghost use Rattle.cert_text.specs.Ranges.{cert_fits};
 ghost use Rattle.cert_text.specs.Spelled.{is_spelled};
+ghost use Rattle.text_pieces.specs.Languages.{HasSpelling};
 
 /// Where the spelling of one certificate is a prefix of another's, a digit follows it there.
 pub fn a_digit_follows()
@@ -24,4 +26,9 @@ pub fn one_spelling()
 /// A certificate that has a spelling meets the condition of printing: no other one has a spelling.
 pub fn no_other_is_spelled()
     ensures { (a : Cert) (text : List ℕ) → Spells a text → IsTrue (is_spelled a) }
+{}
+
+/// Each certificate that meets the condition of printing has a spelling, its numbers being within the ranges of their types.
+pub fn each_is_spelled()
+    ensures { (a : Cert) → IsTrue (cert_fits a) → IsTrue (is_spelled a) → HasSpelling Spells a }
 {}

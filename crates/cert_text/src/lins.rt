@@ -1,37 +1,15 @@
 //! Linear sums.
 
 ghost use Rattle.std.specs.Prelude.{◌≡◌, ◌<◌, ◌≤◌, ◌-◌, ◌^◌, MatchResult, IfOk};
-ghost use Rattle.cert_text.specs.Languages.{NoDigit, Reads, Fails, Blank};
-ghost use Rattle.cert_text.specs.Numbers.{Number, Within, Word32, Signed, Signed128};
-ghost use Rattle.cert_text.specs.Failing.{Unreadable};
+ghost use Rattle.text_pieces.specs.Languages.{NoDigit, Reads, Fails, Blank};
+ghost use Rattle.text_pieces.specs.Numbers.{Number, Within, Word32, Signed, Signed128};
+ghost use Rattle.text_pieces.specs.Failing.{Unreadable};
 ghost use Rattle.cert_text.specs.Sums.{Term, RoomTerms, SpellsLin};
 
-use crate::bad_texts::{Bad, Unread};
-use crate::numbers::number;
-use crate::signs::signed;
-use crate::words::blank;
 use lin_base::Lin;
 use sqlite_items::Items;
 use std::alloc::Global;
-
-/// A blank and behind it the number from low to high, and what follows. Bad at the first byte with which none goes on.
-pub fn blank_number(text: &[u8], low: u128, high: u128) -> Result<(u128, &[u8]), Bad>
-    requires narrow { low < 2 ^ 64 }
-    requires ordered { low ≤ high }
-    ensures { MatchResult result (λ f. Reads (Blank (Number (Within low high))) text.now f.0 f.1.now)
-        (λ e. Fails (Blank (Number (Within low high))) text.now e.left) }
-{
-    number(blank(text)?, low, high)
-}
-
-/// A blank and behind it the `i128` that is at least so far from 0, and what follows. Bad at the first byte with which none goes on.
-pub fn blank_signed(text: &[u8], least: u64) -> Result<(i128, &[u8]), Bad>
-    requires { least ≤ 1 }
-    ensures { MatchResult result (λ f. Reads (Blank (Signed (Signed128 least))) text.now f.0 f.1.now)
-        (λ e. Fails (Blank (Signed (Signed128 least))) text.now e.left) }
-{
-    signed(blank(text)?, least)
-}
+use text_pieces::{Bad, Unread, blank_number, blank_signed, number};
 
 // The term whose unknown is from low to high.
 fn term(text: &[u8], low: u128, high: u128) -> Result<((u32, i128), &[u8]), Bad>

@@ -1,36 +1,26 @@
 //! Parts of rows and nodes, each behind a blank.
 
 ghost use Rattle.std.specs.Prelude.{◌≡◌, ℕ, ◌<◌, ◌≤◌, MatchResult};
-ghost use Rattle.cert_text.specs.Languages.{Reads, Fails, Blank};
-ghost use Rattle.cert_text.specs.Numbers.{Number, Word32, Any, IsCount, Counted};
-ghost use Rattle.cert_text.specs.Failing.{Unreadable};
-ghost use Rattle.cert_text.specs.Counting.{BlankCount};
+ghost use Rattle.text_pieces.specs.Languages.{Reads, Fails, Blank};
+ghost use Rattle.text_pieces.specs.Numbers.{Number, Word32, Any, IsCount, Counted};
+ghost use Rattle.text_pieces.specs.Failing.{Unreadable};
+ghost use Rattle.text_pieces.specs.Counting.{BlankCount};
 ghost use Rattle.cert_text.specs.Grammar.{Index, Whole, Sum, Multiple, SpellsRow, RowParts};
 ghost use Rattle.cert_text.specs.declared.kinds.RowKind.TheVariants as kind;
 
-use crate::bad_texts::{Bad, Unread};
 use crate::kinds::{RowKind, row_kind};
-use crate::lins::{blank_signed, lin};
-use crate::numbers::{count, word32};
-use crate::words::blank;
+use crate::lins::lin;
 use cert_tree::Row;
 use lin_base::Lin;
 use sqlite_items::Items;
 use std::alloc::Global;
+use text_pieces::{Bad, Unread, blank, blank_count, blank_signed, word32};
 
 /// A blank and behind it a `u32`, and what follows. Bad at the first byte with which none goes on.
 pub fn index(text: &[u8]) -> Result<(u32, &[u8]), Bad>
     ensures { MatchResult result (λ f. Reads Index text.now f.0 f.1.now) (λ e. Fails Index text.now e.left) }
 {
     word32(blank(text)?)
-}
-
-/// A blank and behind it a count of any size, and what follows. Each count past the largest `u128` is read as that one.
-/// Bad at the first byte with which no count goes on.
-pub fn blank_count(text: &[u8]) -> Result<(u128, &[u8]), Bad>
-    ensures { MatchResult result (λ f. BlankCount text.now f.0 f.1.now) (λ e. Fails (Blank (Number Any)) text.now e.left) }
-{
-    count(blank(text)?)
 }
 
 /// A blank and behind it a sum, and what follows. Bad at the first byte with which none goes on.

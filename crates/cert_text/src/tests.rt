@@ -1,6 +1,6 @@
 use crate::{BadText, TextError, parse_cert, print_cert};
 use cert_tree::Tree;
-use std::alloc::Global;
+use std::alloc::{AllocError, Global};
 
 /// How many bytes the certificate in front takes.
 fn taken(alloc: Global, text: &str) -> Result<u64, TextError> {
@@ -51,6 +51,9 @@ fn prints_what_was_read(rt: HostRuntime) -> Result<(), TextError> {
         "cert 1 inst 0 1 1 1 0 1 1 case 1 1 clash 0",
         "cert 0 case 0 1 combine 1 0 1 cut 1 combine 1 0 -1 cut 3 combine 2 2 1 4 1 clash 5",
         "cert 0 case 0 1 case 1 1 cut 0 cut 1 combine 2 2 1 3 1 clash 4",
+        "cert 0 case 0 1 case 1 1 clash 1",
+        "cert 0 combine 1 0 170141183460469231731687303715884105727 clash 1",
+        "cert 0 combine 1 0 -170141183460469231731687303715884105728 clash 1",
         "cert 1 low 4294967295 0 -1 least 0 2 clash 0 clash 1",
         "cert 0 residues 2 1 0 -1 5 clash 0 clash 0",
         "cert 0 branch 2 0 1 1 -1 0 solve 0 1 clash 0 clash 2",
@@ -91,6 +94,15 @@ fn tells_where_a_text_is_bad(rt: HostRuntime) {
         ("cert 0 clasp 0", Some(11)),
         ("cert 0 clash 4294967296", Some(22)),
         ("cert 0 combine 1 0 -0 clash 0", Some(20)),
+        (
+            "cert 0 combine 1 0 170141183460469231731687303715884105728",
+            Some(57),
+        ),
+        (
+            "cert 0 combine 1 0 -170141183460469231731687303715884105729",
+            Some(58),
+        ),
+        ("cert 0 combine 1 0 00 clash 0", Some(20)),
         ("cert 0 residues -1 0 0", Some(16)),
         ("cert 0 branch 1 0 0 0 clash 0 clash 0", Some(18)),
         ("cert 0 branch 2 1 1 1 1 0 clash 0 clash 0", Some(21)),
@@ -109,4 +121,36 @@ fn tells_where_a_cut_text_ends(rt: HostRuntime) {
         assert_eq!(rt; bad_at(rt.alloc(), &text[..length]), Some(length as u64));
     }
     assert_eq!(rt; bad_at(rt.alloc(), text), None);
+}
+
+/// The text of a certificate whose tree has so many nodes, one below the other, over a Clash.
+fn nested(alloc: Global, node: &[u8], levels: u32) -> Result<Vec<u8>, AllocError> {
+    let mut text = Vec::new(alloc);
+    text.extend_from_slice(b"cert 0")?;
+    for _ in 0..levels {
+        text.extend_from_slice(node)?;
+    }
+    text.extend_from_slice(b" clash 0")?;
+    Ok(text)
+}
+
+/// Whether a certificate of so many levels is printed as it was read.
+#[tactic(auto, using(crate::proofs::Conditions::begun_spelled))]
+fn is_nested_so(alloc: Global, node: &[u8], levels: u32) -> Result<bool, TextError> {
+    let Ok(text) = nested(alloc, node, levels) else {
+        return Err(TextError::Memory);
+    };
+    let (cert, _taken) = parse_cert(alloc, text.as_slice())?;
+    match print_cert(alloc, &cert) {
+        Ok(printed) => Ok(printed.as_slice() == text.as_slice()),
+        Err(_) => Err(TextError::Memory),
+    }
+}
+
+#[test]
+fn reads_and_prints_deep_trees(rt: HostRuntime) -> Result<(), TextError> {
+    let alloc = rt.alloc();
+    assert!(rt; is_nested_so(alloc, b" solve 0 1", 2000)?);
+    assert!(rt; is_nested_so(alloc, b" least 0 1", 1000)?);
+    Ok(())
 }

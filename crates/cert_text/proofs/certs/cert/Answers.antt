@@ -1,11 +1,11 @@
 use Rattle.std.proofs.lemmas.Result.{err_from_is_err_and}
-use Rattle.cert_text.specs.Languages.{Cat, Blank}
-use Rattle.cert_text.specs.Numbers.{Counted}
+use Rattle.text_pieces.specs.Languages.{Cat, Blank}
+use Rattle.text_pieces.specs.Numbers.{Counted}
 use Rattle.cert_text.specs.Grammar.{SpellsRow, SpellsTree}
-use Rattle.cert_text.proofs.Lifting.{lift-image}
-use Rattle.cert_text.proofs.Chains.{read_next, next_fails, next_unread, last_unread, both}
+use Rattle.text_pieces.proofs.Lifting.{lift-image}
+use Rattle.text_pieces.proofs.Chains.{read_next, next_fails, next_unread, last_unread, both}
 use Rattle.std.specs.Prelude.{codes}
-use Rattle.cert_text.specs.Languages.{Exactly}
+use Rattle.text_pieces.specs.Languages.{Exactly}
 use Rattle.cert_text.specs.Grammar.{cert_of}
 use Rattle.cert_text.proofs.Sure.{regular-blank_tree}
 use Rattle.cert_text.proofs.Wholes.{regular-word, regular-rows}

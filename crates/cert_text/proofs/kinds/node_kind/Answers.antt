@@ -1,6 +1,6 @@
 use Rattle.std.proofs.lemmas.Result.{err_from_is_err_and}
 use Rattle.std.proofs.Common.{sym, subst}
-use Rattle.cert_text.specs.Languages.{Reads}
+use Rattle.text_pieces.specs.Languages.{Reads}
 use Rattle.cert_text.specs.Grammar.{NodeWord}
 use Rattle.cert_text.proofs.Kinded.{node_word_fails, node_word_reads}
 use Rattle.cert_text.proofs.kinds.node_kind.Goals as goal

@@ -1,6 +1,6 @@
 use Rattle.std.proofs.lemmas.Result.{err_from_is_err_and}
 use Rattle.std.proofs.Common.{sym, subst}
-use Rattle.cert_text.specs.Languages.{Reads}
+use Rattle.text_pieces.specs.Languages.{Reads}
 use Rattle.cert_text.specs.Grammar.{RowWord}
 use Rattle.cert_text.proofs.Kinded.{row_word_fails, row_word_reads}
 use Rattle.cert_text.proofs.kinds.row_kind.Goals as goal

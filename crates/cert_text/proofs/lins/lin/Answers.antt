@@ -3,7 +3,7 @@ use Rattle.std.specs.Int.{w128}
 use Rattle.std.proofs.lemmas.Int.{to_z-of_z}
 use Rattle.std.proofs.lemmas.Result.{err_from_is_err_and}
 use Rattle.cert_text.specs.Sums.{RoomTerms, SpellsLin}
-use Rattle.cert_text.proofs.Lifting.{unreadable_on}
+use Rattle.text_pieces.proofs.Lifting.{unreadable_on}
 use Rattle.cert_text.proofs.Rooms.{lin_fails, lin_terms_fail, lin_constant}
 use Rattle.cert_text.proofs.lins.lin.Goals as goal
 

@@ -1,7 +1,7 @@
 use Rattle.std.proofs.lemmas.Result.{err_from_is_err_and, MatchResult-weaker}
 use Rattle.cert_text.specs.Sums.{SpellsLin}
-use Rattle.cert_text.proofs.Lifting.{lift-blank, no_blank}
-use Rattle.cert_text.proofs.Chains.{last_unread}
+use Rattle.text_pieces.proofs.Lifting.{lift-blank, no_blank}
+use Rattle.text_pieces.proofs.Chains.{last_unread}
 use Rattle.cert_text.proofs.Rooms.{has_one-lin}
 use Rattle.cert_text.proofs.parts.blank_lin.Goals as goal
 

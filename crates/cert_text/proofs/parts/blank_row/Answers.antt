@@ -1,7 +1,7 @@
 use Rattle.std.proofs.lemmas.Result.{err_from_is_err_and, MatchResult-weaker}
 use Rattle.cert_text.specs.Grammar.{SpellsRow}
-use Rattle.cert_text.proofs.Lifting.{lift-blank, no_blank}
-use Rattle.cert_text.proofs.Chains.{last_unread}
+use Rattle.text_pieces.proofs.Lifting.{lift-blank, no_blank}
+use Rattle.text_pieces.proofs.Chains.{last_unread}
 use Rattle.cert_text.proofs.Regulars.{regular-row}
 use Rattle.cert_text.proofs.parts.blank_row.Goals as goal
 

@@ -1,8 +1,8 @@
 use Rattle.std.proofs.Common.{arith}
 use Rattle.std.proofs.lemmas.Result.{err_from_is_err_and, MatchResult-weaker}
-use Rattle.cert_text.specs.Numbers.{Number, Word32}
-use Rattle.cert_text.proofs.Lifting.{lift-blank, no_blank}
-use Rattle.cert_text.proofs.Reaching.{has_one-number}
+use Rattle.text_pieces.specs.Numbers.{Number, Word32}
+use Rattle.text_pieces.proofs.Lifting.{lift-blank, no_blank}
+use Rattle.text_pieces.proofs.Reaching.{has_one-number}
 use Rattle.cert_text.proofs.parts.index.Goals as goal
 
 pub returns-in_err-blank : goal.returns-in_err-blank

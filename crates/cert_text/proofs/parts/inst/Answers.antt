@@ -4,10 +4,10 @@ use Rattle.std.proofs.lemmas.Int.{to_z-of_z}
 use Rattle.std.proofs.lemmas.Result.{err_from_is_err_and}
 use Rattle.lin_base.specs.declared.sums.Lin.{Lin}
 use Rattle.cert_tree.specs.declared.certs.Row.TheVariants as row
-use Rattle.cert_text.specs.Languages.{Cat}
+use Rattle.text_pieces.specs.Languages.{Cat}
 use Rattle.cert_text.specs.Grammar.{Index, Whole, Sum}
-use Rattle.cert_text.proofs.Lifting.{lift-image}
-use Rattle.cert_text.proofs.Chains.{read_next, next_fails, last_unread, both}
+use Rattle.text_pieces.proofs.Lifting.{lift-image}
+use Rattle.text_pieces.proofs.Chains.{read_next, next_fails, last_unread, both}
 use Rattle.cert_text.proofs.Regulars.{regular-index, regular-whole, regular-sum}
 use Rattle.cert_text.proofs.parts.inst.Goals as goal
 

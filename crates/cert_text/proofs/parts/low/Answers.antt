@@ -3,10 +3,10 @@ use Rattle.std.specs.Int.{w128}
 use Rattle.std.proofs.lemmas.Int.{to_z-of_z}
 use Rattle.std.proofs.lemmas.Result.{err_from_is_err_and}
 use Rattle.cert_tree.specs.declared.certs.Row.TheVariants as row
-use Rattle.cert_text.specs.Languages.{Cat}
+use Rattle.text_pieces.specs.Languages.{Cat}
 use Rattle.cert_text.specs.Grammar.{Index, Whole}
-use Rattle.cert_text.proofs.Lifting.{lift-image}
-use Rattle.cert_text.proofs.Chains.{read_next, next_fails, both}
+use Rattle.text_pieces.proofs.Lifting.{lift-image}
+use Rattle.text_pieces.proofs.Chains.{read_next, next_fails, both}
 use Rattle.cert_text.proofs.Regulars.{regular-index, regular-whole}
 use Rattle.cert_text.proofs.parts.low.Goals as goal
 

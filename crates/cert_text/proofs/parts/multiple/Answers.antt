@@ -3,8 +3,8 @@ use Rattle.std.specs.Int.{w128}
 use Rattle.std.proofs.lemmas.Int.{to_z-of_z}
 use Rattle.std.proofs.lemmas.Result.{err_from_is_err_and}
 use Rattle.cert_text.specs.Grammar.{Multiple}
-use Rattle.cert_text.proofs.Lifting.{lift-self}
-use Rattle.cert_text.proofs.Chains.{read_next, next_fails}
+use Rattle.text_pieces.proofs.Lifting.{lift-self}
+use Rattle.text_pieces.proofs.Chains.{read_next, next_fails}
 use Rattle.cert_text.proofs.Regulars.{regular-index, regular-whole}
 use Rattle.cert_text.proofs.parts.multiple.Goals as goal
 

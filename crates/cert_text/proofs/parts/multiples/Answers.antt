@@ -2,7 +2,7 @@ use Rattle.std.proofs.Common.{arith}
 use Rattle.std.proofs.lemmas.Result.{err_from_is_err_and}
 use Rattle.cert_text.specs.Grammar.{Multiple}
 use Rattle.cert_text.proofs.Regulars.{regular-multiple}
-use Rattle.cert_text.proofs.Lists.{some_none, some_more, some_fails, some_all, counted-fails}
+use Rattle.text_pieces.proofs.Lists.{some_none, some_more, some_fails, some_all, counted-fails}
 use Rattle.cert_text.proofs.parts.multiples.Goals as goal
 
 pub returns-in_err-count : goal.returns-in_err-count

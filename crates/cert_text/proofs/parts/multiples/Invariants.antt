@@ -1,6 +1,6 @@
 use Rattle.std.proofs.Common.{◌-◌, length}
 use Rattle.cert_text.specs.Grammar.{Multiple}
-use Rattle.cert_text.proofs.Lists.{SomeSo}
+use Rattle.text_pieces.proofs.Lists.{SomeSo}
 use Rattle.cert_text.proofs.parts.multiples.Given as goal
 
 abbrev pub invariant-loop-rest : goal.invariant-loop-rest

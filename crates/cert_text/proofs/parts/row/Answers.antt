@@ -1,9 +1,9 @@
 use Rattle.std.proofs.lemmas.Result.{err_from_is_err_and, MatchResult-weaker}
 use Rattle.cert_text.specs.declared.kinds.RowKind.TheVariants as kind
-use Rattle.cert_text.specs.Languages.{Cat, Reads}
+use Rattle.text_pieces.specs.Languages.{Cat, Reads}
 use Rattle.cert_text.specs.Grammar.{RowParts}
-use Rattle.cert_text.proofs.Lifting.{lift-image}
-use Rattle.cert_text.proofs.Chains.{read_next, next_fails, last_unread}
+use Rattle.text_pieces.proofs.Lifting.{lift-image}
+use Rattle.text_pieces.proofs.Chains.{read_next, next_fails, last_unread}
 use Rattle.std.proofs.Common.{subst}
 use Rattle.cert_tree.specs.declared.certs.Row.{Row}
 use Rattle.cert_text.specs.declared.kinds.RowKind.{RowKind}

@@ -1,10 +1,10 @@
 use Rattle.std.proofs.Common.{arith}
 use Rattle.std.proofs.lemmas.Result.{err_from_is_err_and}
-use Rattle.cert_text.specs.Languages.{Blank}
-use Rattle.cert_text.specs.Numbers.{Counted}
+use Rattle.text_pieces.specs.Languages.{Blank}
+use Rattle.text_pieces.specs.Numbers.{Counted}
 use Rattle.cert_text.specs.Grammar.{SpellsRow}
-use Rattle.cert_text.proofs.Lifting.{unreadable_on}
-use Rattle.cert_text.proofs.Lists.{some_none, some_more, some_fails, some_all, counted-fails}
+use Rattle.text_pieces.proofs.Lifting.{unreadable_on}
+use Rattle.text_pieces.proofs.Lists.{some_none, some_more, some_fails, some_all, counted-fails}
 use Rattle.cert_text.proofs.Regulars.{regular-blank_row}
 use Rattle.cert_text.proofs.parts.rows.Goals as goal
 

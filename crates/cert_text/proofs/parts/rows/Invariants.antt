@@ -1,7 +1,7 @@
 use Rattle.std.proofs.Common.{◌-◌, length}
-use Rattle.cert_text.specs.Languages.{Blank}
+use Rattle.text_pieces.specs.Languages.{Blank}
 use Rattle.cert_text.specs.Grammar.{SpellsRow}
-use Rattle.cert_text.proofs.Lists.{SomeSo}
+use Rattle.text_pieces.proofs.Lists.{SomeSo}
 use Rattle.cert_text.proofs.parts.rows.Given as goal
 
 abbrev pub invariant-loop-alloc : goal.invariant-loop-alloc

@@ -3,10 +3,11 @@ use Rattle.std.proofs.lemmas.List.{take_more}
 use Rattle.std.proofs.Common.{rules, FitsSigned}
 use Rattle.std.specs.Int.{w128}
 use Rattle.std.proofs.lemmas.Int.{to_z-of_z}
-use Rattle.cert_text.specs.Languages.{Times}
+use Rattle.text_pieces.specs.Languages.{Times}
 use Rattle.cert_text.specs.Grammar.{Multiple}
-use Rattle.cert_text.specs.Printing.{Adds}
-use Rattle.cert_text.proofs.Adding.{adds-more, adds-counted, take_whole}
+use Rattle.text_pieces.specs.Printing.{Adds}
+use Rattle.text_pieces.proofs.Adding.{adds-more, adds-counted, take_whole}
+use Rattle.text_pieces.proofs.Keeping.{by_added, then_kept, then_added, puts_err}
 use Rattle.cert_text.proofs.printing.push_multiples.Goals as goal
 
 pub loop-term-preserved : goal.loop-term-preserved
@@ -28,3 +29,9 @@ returns c =
     subst (λ xs. Adds (Times Multiple (length list)) xs c.push_count.new.text.items c.loop-term.text.items) (take_whole (length list) list (omega arith))
     (subst (λ n. Adds (Times Multiple n) (take n list) c.push_count.new.text.items c.loop-term.text.items) end c.loop-term.invariant) in
     adds-counted Multiple list c.args.text.now.items c.push_count.new.text.items c.loop-term.text.items c.in_ok-push_count.ensures all
+
+pub returns-in_err-push_count : goal.returns-in_err-push_count
+returns-in_err-push_count c = puts_err _ _ _ c.from_residual.result c.from_residual.ensures.1 (c.in_err-push_count.ensures)
+
+pub returns-in_err-push_multiple : goal.returns-in_err-push_multiple
+returns-in_err-push_multiple c = puts_err _ _ _ c.from_residual-in_err-push_multiple.result c.from_residual-in_err-push_multiple.ensures.1 (then_kept (then_added (by_added c.in_ok-push_count.ensures) c.loop-term.invariant) c.in_err-push_multiple.ensures)

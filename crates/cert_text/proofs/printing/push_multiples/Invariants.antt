@@ -1,7 +1,7 @@
 use Rattle.std.proofs.Common.{take}
-use Rattle.cert_text.specs.Languages.{Times}
+use Rattle.text_pieces.specs.Languages.{Times}
 use Rattle.cert_text.specs.Grammar.{Multiple}
-use Rattle.cert_text.specs.Printing.{Adds}
+use Rattle.text_pieces.specs.Printing.{Adds}
 use Rattle.cert_text.proofs.printing.push_multiples.Given as goal
 
 abbrev pub invariant-loop-term : goal.invariant-loop-term

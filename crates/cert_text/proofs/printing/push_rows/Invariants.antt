@@ -1,7 +1,7 @@
 use Rattle.std.proofs.Common.{take}
-use Rattle.cert_text.specs.Languages.{Blank, Times}
+use Rattle.text_pieces.specs.Languages.{Blank, Times}
 use Rattle.cert_text.specs.Grammar.{SpellsRow}
-use Rattle.cert_text.specs.Printing.{Adds}
+use Rattle.text_pieces.specs.Printing.{Adds}
 use Rattle.cert_text.proofs.printing.push_rows.Given as goal
 
 abbrev pub invariant-loop-row : goal.invariant-loop-row

@@ -2,8 +2,9 @@ use Rattle.std.proofs.Common.{rules, FitsSigned, ◌≡◌, ◌+◌, suc, ◌∷
 use Rattle.std.specs.Int.{w128}
 use Rattle.std.proofs.lemmas.Int.{to_z-of_z}
 use Rattle.cert_text.specs.Grammar.{Multiple}
-use Rattle.cert_text.specs.Printing.{Adds}
+use Rattle.text_pieces.specs.Printing.{Adds}
 use Rattle.cert_text.proofs.Ascending.{terms_left, terms_put, terms_done, drop_whole}
+use Rattle.text_pieces.proofs.Keeping.{by_bytes, then_kept, puts_err}
 use Rattle.cert_text.proofs.printing.push_terms.Goals as goal
 
 pub loop-term-init : goal.loop-term-init
@@ -26,3 +27,6 @@ returns c =
     let all = c.args.terms.now in
     let i = c.loop-term.term-index in
     terms_done all (drop i all) c.args.text.now.items c.loop-term.text.items (drop_whole i all c.loop-term-test.false) c.loop-term.invariant
+
+pub returns-in_err-push_multiple : goal.returns-in_err-push_multiple
+returns-in_err-push_multiple c = puts_err _ _ _ c.from_residual.result c.from_residual.ensures.1 (then_kept (by_bytes _ c.loop-term.invariant.is) c.in_err-push_multiple.ensures)

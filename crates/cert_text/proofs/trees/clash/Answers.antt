@@ -1,7 +1,7 @@
 use Rattle.std.proofs.lemmas.Result.{err_from_is_err_and}
 use Rattle.cert_tree.specs.declared.certs.Tree.TheVariants as node
 use Rattle.cert_text.specs.Grammar.{Index}
-use Rattle.cert_text.proofs.Lifting.{lift-image}
+use Rattle.text_pieces.proofs.Lifting.{lift-image}
 use Rattle.cert_text.proofs.trees.clash.Goals as goal
 
 pub returns-in_err-fact : goal.returns-in_err-fact

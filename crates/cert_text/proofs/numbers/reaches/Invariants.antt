@@ -1,9 +1,0 @@
-use Rattle.std.proofs.Common.{◌-◌}
-use Rattle.cert_text.proofs.Windows.{Widened}
-use Rattle.cert_text.proofs.numbers.reaches.Given as goal
-
-abbrev pub invariant-loop-most : goal.invariant-loop-most
-invariant-loop-most l = Widened l.value l.low l.least l.most
-
-abbrev pub decreases-loop-most : goal.decreases-loop-most
-decreases-loop-most l = l.low - l.most

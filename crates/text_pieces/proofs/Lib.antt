@@ -1,0 +1,15 @@
+pub mod Joining
+pub mod Digits
+pub mod Reaching
+pub mod Windows
+pub mod Lifting
+pub mod Negatives
+pub mod Lists
+pub mod Counts
+pub mod Choices
+pub mod Chains
+pub mod Adding
+pub mod WordFronts
+pub mod OneText
+pub mod Keeping
+pub mod Having

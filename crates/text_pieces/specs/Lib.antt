@@ -1,0 +1,6 @@
+pub mod Decimals
+pub mod Languages
+pub mod Numbers
+pub mod Failing
+pub mod Counting
+pub mod Printing
