@@ -13,6 +13,7 @@ rank signature (symbol f) = if is_foreground signature f then 5 else 2
 rank signature plus = 3
 rank signature times = 4
 
+-- whether a number is below 0
 abbrev pub is_negative : ℤ → Bool
 is_negative (pos n) = false
 is_negative (negsuc n) = true

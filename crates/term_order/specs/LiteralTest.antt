@@ -18,6 +18,7 @@ side_above signature m l u t = has_more m l u && is_above (standing signature u 
 abbrev pub is_below : List Symbol → Lit → Lit → Tree → Bool
 is_below signature m l t = not (has_more l m t) || (side_above signature m l m.left t || side_above signature m l m.right t)
 
+-- m has a term more often than l, and both sides of l lie below as they have to
 abbrev pub literal_above : List Symbol → Lit → Lit → Bool
 literal_above signature m l =
     (has_more m l m.left || has_more m l m.right) && (is_below signature m l l.left && is_below signature m l l.right)

@@ -12,6 +12,7 @@ multiset_of equal s t = s ∷ (t ∷ [])
 multiset_of differ s t = s ∷ (s ∷ (t ∷ (t ∷ [])))
 multiset_of at_most s t = s ∷ (s ∷ (t ∷ (t ∷ [])))
 
+-- the multiset of a literal
 abbrev pub multiset : Lit → List Tree
 multiset l = multiset_of l.relation l.left l.right
 

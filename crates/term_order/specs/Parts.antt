@@ -12,6 +12,7 @@ use Rattle.term_order.specs.declared.standing.Standing.TheVariants as is
 abbrev pub equal_if : Bool → Standing
 equal_if b = if b then is.Equal else is.Neither
 
+-- a variable, which has no head
 abbrev pub is_variable : Tree → Bool
 is_variable (var v) = true
 is_variable (node f xs) = false
@@ -26,6 +27,7 @@ abbrev pub is_application : Tree → Bool
 is_application (node (symbol f) xs) = true
 is_application _ = false
 
+-- the arguments of a node; a variable has none
 abbrev pub arguments : Tree → Trees
 arguments (var v) = none
 arguments (node f xs) = xs

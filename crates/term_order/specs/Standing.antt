@@ -11,6 +11,7 @@ use Rattle.term_order.specs.declared.standing.Standing.TheVariants as is
 abbrev pub above_if : Bool → Standing
 above_if b = if b then is.Above else is.Neither
 
+-- above alone
 abbrev pub is_above : Standing → Bool
 is_above is.Above = true
 is_above is.Equal = false
@@ -64,6 +65,7 @@ abbrev mutual
   standing signature (var v) t = if same_tree (var v) t then is.Equal else is.Neither
   standing signature (node f xs) t = node_standing signature f xs (standings signature xs) t
 
+  -- how each of the trees stands to others
   pub standings : List Symbol → Trees → List (Tree → Standing)
   standings signature none = []
   standings signature (more x xs) = standing signature x ∷ standings signature xs

@@ -33,7 +33,7 @@ fn is_abstraction(t: &Term) -> bool
     }
 }
 
-/// Whether a foreground term stands before an abstraction variable, which it is above.
+/// Whether the second term is an abstraction variable and the first has a foreground symbol.
 fn covers(signature: &[Symbol], s: &Term, t: &Term) -> bool
     ensures { result ≡ (part.is_abstraction (tree t.now) && foreground signature.now (tree s.now)) }
 {
