@@ -11,7 +11,6 @@ use Rattle.term_base.specs.declared.clauses.Literal.TheVariants.{Equal, Differ, 
 use Rattle.term_base.specs.TermFolds.{fold-Var, fold-Num, fold-True, fold-Sum, fold-Scale, fold-App}
 use Rattle.term_base.specs.TermInduction.{term_induction}
 use Rattle.term_base.specs.TreeLemmas.{both_ways}
-use Rattle.lin_base.specs.declared.sums.Lin.{Lin}
 use Rattle.lin_base.specs.Whole.{is_zero, is_same}
 use Rattle.lin_base.specs.Sum as sum
 use Rattle.lin_base.specs.Sum.{Valuation, above, negated}

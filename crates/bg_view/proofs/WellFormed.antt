@@ -10,7 +10,6 @@ use Rattle.term_base.specs.declared.clauses.Literal.TheVariants.{Equal, Differ, 
 use Rattle.term_base.specs.declared.clauses.Clause.{Clause}
 use Rattle.term_base.specs.TermFolds.{fold-Var, fold-Num, fold-True, fold-Sum, fold-Scale, fold-App}
 use Rattle.term_base.specs.TermInduction.{term_induction}
-use Rattle.lin_base.specs.declared.sums.Lin.{Lin}
 use Rattle.lin_base.specs.Sum.{negated}
 use Rattle.lin_base.specs.Fact.{is_lin, is_fact, is_pool}
 use Rattle.lin_base.proofs.WellFormed.{is_lin-add, is_lin-scale, is_lin-add_number, is_lin-above}

@@ -227,7 +227,12 @@ fn two_bounds(rt: HostRuntime) -> Result<(), Fail> {
     Ok(())
 }
 
-fn push_at_most(clauses: &mut Items<Clause>, s: Term, t: Term, alloc: Global) -> Result<(), AllocError> {
+fn push_at_most(
+    clauses: &mut Items<Clause>,
+    s: Term,
+    t: Term,
+    alloc: Global,
+) -> Result<(), AllocError> {
     let clause = unit(alloc, Literal::AtMost(s, t))?;
     clauses.push(clause)
 }

@@ -1,4 +1,4 @@
-use Rattle.std.proofs.Common.{arith, ◌<◌, length, append_assoc, inl, inr, ◌⊎◌, ◌≡◌, None, ◌∙◌, sym}
+use Rattle.std.proofs.Common.{arith, ◌<◌, length, append_assoc, inl, inr, ◌⊎◌, ◌≡◌, None}
 use Rattle.lin_base.specs.Sum.{add_terms}
 use Rattle.lin_base.specs.Steps.{first_wide, add_terms_steps}
 use Rattle.lin_base.proofs.Forming.{forming, formed_by-narrow}

@@ -1,10 +1,10 @@
-use Rattle.std.proofs.Common.{◌≡◌, ◌∙◌, sym, ap, ◌∷◌, [], Err, Ok, arith, ◌+ℤ◌, to_z, of_z}
+use Rattle.std.proofs.Common.{◌≡◌, ◌∙◌, ◌∷◌, [], Err, Ok, arith, ◌+ℤ◌, to_z, of_z}
 use Rattle.std.specs.Int.{w128}
 use Rattle.std.proofs.lemmas.Int.{to_z-of_z}
 use Rattle.std.proofs.lemmas.Grind.{common_steps}
 use Rattle.lin_base.specs.Sum.{add, add_terms}
 use Rattle.lin_base.specs.Steps.{add_steps, add_terms_steps, adds, formed_by}
-use Rattle.lin_base.proofs.Forming.{forming, formed_by-first, formed_by-last, formed_by-both, formed_by-ok, formed_by-narrow}
+use Rattle.lin_base.proofs.Forming.{formed_by-first, formed_by-last, formed_by-both, formed_by-ok, formed_by-narrow}
 use Rattle.lin_base.proofs.changes.sum_in.Goals as goal
 
 pub returns-in_err-add_terms : goal.returns-in_err-add_terms

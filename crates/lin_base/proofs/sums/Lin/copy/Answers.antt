@@ -1,4 +1,4 @@
-use Rattle.std.proofs.Common.{◌≡◌, ◌∙◌, sym}
+use Rattle.std.proofs.Common.{◌∙◌, sym}
 use Rattle.std.proofs.lemmas.Bool.{true≢false}
 use Rattle.lin_base.proofs.Lookup.{no_terms}
 use Rattle.lin_base.proofs.sums.Lin.copy.Goals as goal
