@@ -74,51 +74,57 @@ fn given(rt: HostRuntime) -> Result<(), Fail> {
     Ok(())
 }
 
+// Whether each line is refused.
+fn are_refused(alloc: Global, lines: &[&str]) -> Result<bool, AllocError> {
+    for line in lines {
+        if options_of(alloc, &split(alloc, line)?) != Err(WordsFault::Usage) {
+            return Ok(false);
+        }
+    }
+    Ok(true)
+}
+
 #[test]
 fn refused(rt: HostRuntime) -> Result<(), Fail> {
     let alloc = rt.alloc();
-    let lines = [
+    let others = [
         "",
         "-",
-        "--",
         "x",
         "-x",
-        "--help",
-        "-h",
-        "--version",
-        "-V",
-        "help",
+        "--work 2",
+        "--Workers 2",
+        "--ordinary=true",
+        "--check x",
+    ];
+    assert!(rt; are_refused(alloc, others.as_slice())?);
+    let help = ["--help", "-h", "help", "--version", "-V"];
+    assert!(rt; are_refused(alloc, help.as_slice())?);
+    Ok(())
+}
+
+#[test]
+fn refused_numbers(rt: HostRuntime) -> Result<(), Fail> {
+    let alloc = rt.alloc();
+    let missing = [
         "--workers",
+        "--make",
+        "--workers x",
+        "--workers 2 --workers 2",
+        "--make -1",
+    ];
+    assert!(rt; are_refused(alloc, missing.as_slice())?);
+    let outside = [
         "--workers 0",
         "--workers 9",
-        "--workers x",
         "--turns 0",
         "--turns 1000001",
         "--judge-steps 0",
         "--judge-steps 4294967296",
-        "--make",
-        "--make -1",
         "--make 4294967296",
-        "--workers 2 --workers 2",
-        "--ordinary=true",
-        "--check x",
-        "--check --make 1",
-        "--make 1 --check",
-        "--work 2",
-        "--Workers 2",
     ];
-    for line in lines {
-        let words = split(alloc, line)?;
-        let got = options_of(alloc, &words);
-        assert_eq!(rt;
-            got,
-            if line == "--" {
-                Ok(DEFAULTS)
-            } else {
-                Err(WordsFault::Usage)
-            },
-            "{line}"
-        );
-    }
+    assert!(rt; are_refused(alloc, outside.as_slice())?);
+    let both = ["--check --make 1", "--make 1 --check"];
+    assert!(rt; are_refused(alloc, both.as_slice())?);
     Ok(())
 }
