@@ -25,4 +25,6 @@ mod lazy_tests;
 #[cfg(test)]
 mod sign_tests;
 #[cfg(test)]
+mod table_tests;
+#[cfg(test)]
 mod tests;
