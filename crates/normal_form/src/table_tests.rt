@@ -14,7 +14,7 @@ fn letter(v: Variable) -> &'static str {
         (Kind::Abstraction, _) => "A",
         (Kind::Ordinary, Sort::Int) => "N",
         (Kind::Ordinary, Sort::Individual) => "X",
-        _ => "D",
+        _ => "D0.",
     }
 }
 
@@ -297,8 +297,8 @@ fn gives_the_clauses_of_quantified_formulas(rt: HostRuntime) -> Result<(), Fail>
         (
             3,
             false,
-            "D0 = D0 | (A1 + 1) <= 1;",
-            "D0 = D0 | (A1 + 1) <= 1;",
+            "D0.0 = D0.0 | (A1 + 1) <= 1;",
+            "D0.0 = D0.0 | (A1 + 1) <= 1;",
         ),
         (3, true, "s4 != s4;1 <= s5;", "s4 != s4;1 <= s5;"),
         (
