@@ -1,4 +1,0 @@
-pub mod Metering
-pub mod Periods
-pub mod Completing
-pub mod Grounding
