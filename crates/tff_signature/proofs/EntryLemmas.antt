@@ -19,13 +19,13 @@ by_key n k e w x r same = rw same (twice (same_name n e) w x r)
 
 -- two names that aren't one aren't both a third
 apart : {W : Type 0} (c d : Bool) (w x r r' : W) → (c ≡ true → d ≡ true → ⊥) → r' ≡ cond c w r → cond d x r' ≡ cond c w (cond d x r)
-apart true true w x r r' no h = absurd (no refl refl)
-apart true false w x r r' no h = h
-apart false true w x r r' no h = refl
-apart false false w x r r' no h = h
+apart true true w x r r' differ h = absurd (differ refl refl)
+apart true false w x r r' differ h = h
+apart false true w x r r' differ h = refl
+apart false false w x r r' differ h = h
 
 both : (n k e : Name) → same_name k e ≡ false → same_name n k ≡ true → same_name n e ≡ true → ⊥
-both n k e no h h' =
+both n k e differ h h' =
     let p : n ≡ k = (bytes_decides n k).0 h in
     let q : n ≡ e = (bytes_decides n e).0 h' in
     let r : same_name k e ≡ true = (bytes_decides k e).1 (sym p ∙ q) in

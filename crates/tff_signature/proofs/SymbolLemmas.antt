@@ -5,11 +5,13 @@ use Rattle.std.specs.List.{cons_option}
 use Rattle.std.specs.Cmp.Lexicographic.{bytes_decides}
 use Rattle.std.proofs.lemmas.List.Elements.{filter_map-append}
 use Rattle.term_base.specs.declared.symbols.Symbol.{Symbol}
+use Rattle.tff_grammar.specs.declared.trees.Word.{Word}
+use Rattle.tff_grammar.specs.declared.trees.Sort.{Sort as WrittenSort}
 use Rattle.tff_grammar.specs.declared.trees.DeclaredType.{DeclaredType}
 use Rattle.tff_grammar.specs.declared.trees.DeclaredType.TheVariants as type
-use Rattle.tff_signature.specs.Names.{Name, same_name, is_among}
+use Rattle.tff_signature.specs.Names.{Name, same_name, name_of, is_among}
 use Rattle.tff_signature.specs.Declarations.{Declaration, declared_type, sort_names}
-use Rattle.tff_signature.specs.Symbols.{Use, symbol_at, add_use, first_uses}
+use Rattle.tff_signature.specs.Symbols.{Use, symbol, used_symbol, word_use, sort_of, symbol_at, add_use}
 use Rattle.tff_signature.specs.Tables.{listed, add_symbol}
 
 abbrev is_sort : Option DeclaredType → Bool
@@ -86,6 +88,30 @@ module _ (text : List ℕ) (ds : List Declaration) where
   symbol_added us u =
       ap (λ b. if b then filter_map symbol_for us else filter_map symbol_for us ++ listed (symbol_for u)) (names_of_symbols us u.name)
       ∙ added_at (used us u.name) (sorted u.name) us u (symbol_for u) refl (no_symbol u (declared_type text ds u.name))
+
+  -- a first use
+  added_here : (symbols : List Symbol) (names : List Name) (u : Use) (o : Option DeclaredType) (s : Symbol)
+      → names ≡ map (λ f. f.name) symbols → is_among names u.name ≡ false → declared_type text ds u.name ≡ o → symbol_at text (sort_names text ds) u o ≡ Some s
+      → symbols ++ s ∷ [] ≡ add_symbol text ds symbols u
+  added_here symbols names u o s kept new typed is =
+      sym (ap (λ b. if b then symbols else symbols ++ listed (symbol_for u)) (ap (λ ns. is_among ns u.name) (sym kept) ∙ new)
+      ∙ ap (λ p. symbols ++ listed (symbol_at text (sort_names text ds) u p)) typed ∙ ap (λ p. symbols ++ listed p) is)
+
+  -- that of an undeclared word
+  pub used_here : (symbols : List Symbol) (names : List Name) (w : Word) (n : Name) (arity : ℕ) (whole : Bool) (s : Symbol)
+      → names ≡ map (λ f. f.name) symbols → n ≡ name_of text w → is_among names n ≡ false → declared_type text ds n ≡ None
+      → s ≡ used_symbol (record { name = n; arity = arity; whole = whole }) → symbols ++ s ∷ [] ≡ add_symbol text ds symbols (word_use text w arity whole)
+  used_here symbols names w n arity whole s kept named new typed is =
+      rw (← named) (added_here symbols names (record { name = n; arity = arity; whole = whole }) None s kept new typed (sym (ap Some is)))
+
+  -- that of a declared word
+  pub declared_here : (symbols : List Symbol) (names sorts : List Name) (w : Word) (n : Name) (arity : ℕ) (whole : Bool) (args : List WrittenSort) (given : WrittenSort) (s : Symbol)
+      → names ≡ map (λ f. f.name) symbols → n ≡ name_of text w → is_among names n ≡ false → declared_type text ds n ≡ Some (type.Function args given)
+      → sorts ≡ sort_names text ds → s ≡ symbol n (map (sort_of text sorts) args) (sort_of text sorts given)
+      → symbols ++ s ∷ [] ≡ add_symbol text ds symbols (word_use text w arity whole)
+  declared_here symbols names sorts w n arity whole args given s kept named new typed same is =
+      rw (← named) (added_here symbols names (record { name = n; arity = arity; whole = whole }) (Some (type.Function args given)) s kept new typed
+      (sym (ap Some (is ∙ ap (λ ns. symbol n (map (sort_of text ns) args) (sort_of text ns given)) same))))
 
   -- all uses
   pub symbols_added : (seen us : List Use) → fold (add_symbol text ds) (filter_map symbol_for seen) us ≡ filter_map symbol_for (fold add_use seen us)

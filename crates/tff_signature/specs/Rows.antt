@@ -18,7 +18,7 @@ second_number : number_of (codes "q" ∷ codes "p" ∷ []) (codes "p") ≡ 1
 second_number = refl
 
 -- the first use of a word counts
-use_of : Use
+abbrev use_of : Use
 use_of = record { name = codes "p"; arity = 1; whole = true }
 
 first_use : first_uses (use_of ∷ record { name = codes "p"; arity = 2; whole = false } ∷ []) ≡ use_of ∷ []

@@ -30,6 +30,11 @@ abbrev pub with_sort : DeclaredType → Name → List Name → List Name
 with_sort type.OfTypes name sorts = add_name sorts name
 with_sort (type.Function args s) name sorts = sorts
 
+-- what there is, as a list
+abbrev pub listed : {A : Type 0} → Option A → List A
+listed None = []
+listed (Some x) = x ∷ []
+
 -- what is kept is what these declarations say
 pub record Declares (text : List ℕ) (d : Declared) (ds : List Declaration) : Type 0 where
   pub sorts : d.sorts ≡ sort_names text ds
@@ -40,10 +45,6 @@ pub record Declares (text : List ℕ) (d : Declared) (ds : List Declaration) : T
 -- each symbol is kept by its name
 abbrev pub IsNamed : Signature → Type 0
 IsNamed s = s.names ≡ map (λ f. f.name) s.symbols
-
-abbrev pub listed : {A : Type 0} → Option A → List A
-listed None = []
-listed (Some x) = x ∷ []
 
 -- the symbols behind those before them, at a use of a name that has none yet
 abbrev pub add_symbol : List ℕ → List Declaration → List Symbol → Use → List Symbol

@@ -1,10 +1,11 @@
 //! Declarations, and the faults of declarations and binders.
-ghost use Rattle.std.specs.Prelude.{◌≡◌, ℕ, flat_map, IfOk, OnOk, List};
+ghost use Rattle.std.specs.Prelude.{◌≡◌, ◌++◌, ℕ, flat_map, IfOk, OnOk, List};
 ghost use Rattle.std.specs.Cmp.Lexicographic.{pointwise};
 ghost use Rattle.std.specs.Option.{option_copied};
 ghost use Rattle.tff_signature.specs.Declarations as spec;
-ghost use Rattle.tff_signature.specs.Faults.{checked};
-ghost use Rattle.tff_signature.specs.Tables.{type_at, or_else, given_to, with_sort, Declares};
+ghost use Rattle.tff_signature.specs.Faults.{checked, fault};
+ghost use Rattle.tff_signature.specs.Names.{span_of};
+ghost use Rattle.tff_signature.specs.Tables.{type_at, or_else, given_to, with_sort, listed, Declares};
 
 use crate::faults::{Later, LaterName};
 use crate::names::{Names, name, span};
@@ -22,7 +23,7 @@ pub struct Declared<'a> {
 
 impl<'a> Declared<'a> {
     /// The type of the first declaration of a name.
-    pub fn type_of(&self, name: &[u8]) -> Option<&'a DeclaredType>
+    pub(crate) fn type_of(&self, name: &[u8]) -> Option<&'a DeclaredType>
         ensures { option_copied result ≡ type_at self.now name.now }
     {
         match self.types.get(name) {
@@ -31,17 +32,48 @@ impl<'a> Declared<'a> {
         }
     }
 
+    /// Keeps the type of a name that has none yet.
+    fn add_type(
+        &mut self,
+        alloc: Global,
+        name: &[u8],
+        given: &'a DeclaredType,
+    ) -> Result<(), AllocError>
+        ensures types { OnOk result ((n : List ℕ) → type_at self.new n ≡ or_else (type_at self.old n) (given_to name.now given.now n)) }
+        ensures sorts { self.new.sorts ≡ self.old.sorts }
+    {
+        if self.types.contains_key(name) {
+            return Ok(());
+        }
+        self.types.insert(Vec::from_slice(alloc, name)?, given)?;
+        Ok(())
+    }
+
     /// Adds a declaration.
     fn add(&mut self, alloc: Global, name: &[u8], given: &'a DeclaredType) -> Result<(), AllocError>
         ensures types { OnOk result ((n : List ℕ) → type_at self.new n ≡ or_else (type_at self.old n) (given_to name.now given.now n)) }
         ensures sorts { OnOk result (self.new.sorts ≡ with_sort given.now name.now self.old.sorts) }
     {
-        if !self.types.contains_key(name) {
-            self.types.insert(Vec::from_slice(alloc, name)?, given)?;
-        }
+        self.add_type(alloc, name, given)?;
         match given {
             DeclaredType::OfTypes => self.sorts.add(alloc, name),
             DeclaredType::Function(_, _) => Ok(()),
+        }
+    }
+
+    /// Adds what a statement declares.
+    fn add_content(
+        &mut self,
+        alloc: Global,
+        text: &[u8],
+        content: &'a Content,
+    ) -> Result<(), AllocError>
+        ensures { (ds : List spec.Declaration) → Declares text.now self.old ds
+            → OnOk result (Declares text.now self.new (ds ++ listed (spec.declared_in content.now))) }
+    {
+        match content {
+            Content::Declaration(word, given) => self.add(alloc, name(text, *word), given),
+            Content::Premise(_) | Content::Conjecture(_) => Ok(()),
         }
     }
 }
@@ -59,10 +91,7 @@ pub fn declarations_of<'a>(
         sorts: Names::new(alloc),
     };
     for statement in statements {
-        match &statement.content {
-            Content::Declaration(word, given) => declared.add(alloc, name(text, *word), given)?,
-            Content::Premise(_) | Content::Conjecture(_) => {}
-        }
+        declared.add_content(alloc, text, &statement.content)?;
     }
     Ok(declared)
 }
@@ -120,6 +149,16 @@ fn is_same_type(text: &[u8], a: &DeclaredType, b: &DeclaredType) -> bool
     }
 }
 
+/// A fault at a word.
+fn fault_at(name: LaterName, word: Word) -> Later
+    ensures { result ≡ fault name (span_of word).start }
+{
+    Later {
+        name,
+        at: span(word).start,
+    }
+}
+
 /// UnknownSort where a sort word is no declared sort.
 fn check_sort(text: &[u8], sorts: &Names, sort: Sort) -> Result<(), Later>
     ensures { result ≡ checked (spec.sort_faults text.now sorts.now sort) }
@@ -129,10 +168,7 @@ fn check_sort(text: &[u8], sorts: &Names, sort: Sort) -> Result<(), Later>
             if sorts.contains(name(text, word)) {
                 return Ok(());
             }
-            Err(Later {
-                name: LaterName::UnknownSort,
-                at: span(word).start,
-            })
+            Err(fault_at(LaterName::UnknownSort, word))
         }
         Sort::Basic(_) | Sort::Truth => Ok(()),
     }
@@ -176,10 +212,7 @@ fn check_first(
             if is_same_type(text, given, first) {
                 return Ok(());
             }
-            Err(Later {
-                name: LaterName::Redeclared,
-                at: span(word).start,
-            })
+            Err(fault_at(LaterName::Redeclared, word))
         }
     }
 }
@@ -223,26 +256,33 @@ fn check_binders(text: &[u8], sorts: &Names, formula: &Formula) -> Result<(), La
     }
 }
 
-/// The first fault of the declarations and binders of a file.
+/// The first fault of a declaration, or of a formula's binders.
 #[tactic(auto, using(crate::proofs::FaultLemmas::checked_ok, crate::proofs::FaultLemmas::checked_err))]
+fn check_content(text: &[u8], declared: &Declared<'_>, content: &Content) -> Result<(), Later>
+    ensures { (ds : List spec.Declaration) → Declares text.now declared.now ds
+        → result ≡ checked (spec.content_faults text.now ds (spec.sort_names text.now ds) content.now) }
+{
+    match content {
+        Content::Declaration(word, given) => {
+            check_first(text, *word, given, declared.type_of(name(text, *word)))?;
+            check_type(text, &declared.sorts, given)
+        }
+        Content::Premise(formula) => check_binders(text, &declared.sorts, formula),
+        Content::Conjecture(formula) => check_binders(text, &declared.sorts, formula),
+    }
+}
+
+/// The first fault of the declarations and binders of a file.
 pub fn check_declarations(
     text: &[u8],
     declared: &Declared<'_>,
     statements: &[Statement],
 ) -> Result<(), Later>
-    ensures { (ds : List spec.Declaration) → Declares text.now declared.now ds
-        → result ≡ checked (flat_map (λ s. spec.content_faults text.now ds (spec.sort_names text.now ds) s.content) statements.now) }
+    requires { Declares text.now declared.now (spec.declarations statements.now) }
+    ensures { result ≡ checked (spec.phase_2 text.now statements.now) }
 {
     for statement in statements {
-        match &statement.content {
-            Content::Declaration(word, given) => {
-                check_first(text, *word, given, declared.type_of(name(text, *word)))?;
-                check_type(text, &declared.sorts, given)?;
-            }
-            Content::Premise(formula) | Content::Conjecture(formula) => {
-                check_binders(text, &declared.sorts, formula)?;
-            }
-        }
+        check_content(text, declared, &statement.content)?;
     }
     Ok(())
 }

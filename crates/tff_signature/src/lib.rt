@@ -3,10 +3,14 @@
 
 mod declarations;
 mod faults;
+mod laws;
 mod names;
 mod symbols;
+#[cfg(test)]
+mod tests;
 
 pub use declarations::{Declared, check_declarations, declarations_of};
 pub use faults::{Later, LaterName};
+pub use laws::faults_ascend;
 pub use names::{Names, name, span};
-pub use symbols::{Signature, signature_of, sort_number, sort_of};
+pub use symbols::{Signature, signature_of, sort_number};

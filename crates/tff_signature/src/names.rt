@@ -82,7 +82,7 @@ impl Model for Names {
 
 impl Names {
     /// No names.
-    pub fn new(alloc: Global) -> Names
+    pub(crate) fn new(alloc: Global) -> Names
         ensures { result ≡ [] }
     {
         Names {
@@ -99,7 +99,7 @@ impl Names {
 
     /// Whether a name is one of them.
     #[tactic(auto, using(crate::proofs::NameLemmas::any_map))]
-    pub fn contains(&self, name: &[u8]) -> bool
+    pub(crate) fn contains(&self, name: &[u8]) -> bool
         ensures { result ≡ is_among self.now name.now }
     {
         self.names.contains(name)
@@ -107,7 +107,7 @@ impl Names {
 
     /// The number of a name, where it is one of them.
     #[tactic(auto, using(crate::proofs::NameLemmas::number_is))]
-    pub fn number(&self, name: &[u8]) -> Option<usize>
+    pub(crate) fn number(&self, name: &[u8]) -> Option<usize>
         ensures { MatchOption result (number_of self.now name.now ≡ length self.now) (λ k. k ≡ number_of self.now name.now) }
     {
         self.names.get_index_of(name)
@@ -115,7 +115,7 @@ impl Names {
 
     /// Adds a name behind the others, where it isn't one of them.
     #[tactic(auto, using(crate::proofs::NameLemmas::add_is))]
-    pub fn add(&mut self, alloc: Global, name: &[u8]) -> Result<(), AllocError>
+    pub(crate) fn add(&mut self, alloc: Global, name: &[u8]) -> Result<(), AllocError>
         ensures { OnOk result (self.new ≡ add_name self.old name.now) }
     {
         if !self.contains(name) {

@@ -33,7 +33,7 @@ struct Source<'t, 'd, 's> {
 }
 
 /// The sort that is written, by its number among the declared ones. A number past 2^32 - 1 counts as want of memory.
-pub fn sort_of(text: &[u8], sorts: &Names, sort: WrittenSort) -> Result<Sort, AllocError>
+fn sort_of(text: &[u8], sorts: &Names, sort: WrittenSort) -> Result<Sort, AllocError>
     ensures { IfOk result (λ s. s ≡ spec.sort_of text.now sorts.now sort) }
 {
     match sort {
@@ -107,20 +107,41 @@ impl Signature {
         self.symbols.push(symbol)
     }
 
+    /// Adds the word of a head, where it is one.
+    fn add_head(
+        &mut self,
+        source: &Source<'_, '_, '_>,
+        head: Head,
+        arity: usize,
+        whole: bool,
+    ) -> Result<(), AllocError>
+        requires { IsNamed self.old }
+        ensures named { OnOk result (IsNamed self.new) }
+        ensures symbols { (ds : List Declaration) → Declares source.now.text.now source.now.declared.now ds
+            → OnOk result (self.new.symbols ≡ fold (add_symbol source.now.text.now ds) self.old.symbols (spec.head_uses source.now.text.now head arity whole)) }
+    {
+        match head {
+            Head::Word(word) => self.add_use(source, word, arity, whole),
+            Head::Operation(_, _) => Ok(()),
+        }
+    }
+
     /// Adds the words of a term, or of a whole atomic formula that has the form of one.
     fn add_term(
         &mut self,
         source: &Source<'_, '_, '_>,
         term: &Term,
         whole: bool,
-    ) -> Result<(), AllocError> {
+    ) -> Result<(), AllocError>
+        requires { IsNamed self.old }
+        ensures named { OnOk result (IsNamed self.new) }
+        ensures symbols { (ds : List Declaration) → Declares source.now.text.now source.now.declared.now ds
+            → OnOk result (self.new.symbols ≡ fold (add_symbol source.now.text.now ds) self.old.symbols (spec.term_uses source.now.text.now term.now whole)) }
+    {
         match term {
             Term::Variable(_) | Term::Numeral(_) => Ok(()),
             Term::Apply(head, args) => {
-                match head {
-                    Head::Word(word) => self.add_use(source, *word, args.len(), whole)?,
-                    Head::Operation(_, _) => {}
-                }
+                self.add_head(source, *head, args.len(), whole)?;
                 for arg in args.as_slice() {
                     self.add_term(source, arg, false)?;
                 }
@@ -219,9 +240,9 @@ pub fn signature_of(
     declared: &Declared<'_>,
     statements: &[Statement],
 ) -> Result<Signature, AllocError>
+    requires { Declares text.now declared.now (declarations statements.now) }
     ensures named { IfOk result IsNamed }
-    ensures symbols { Declares text.now declared.now (declarations statements.now)
-        → IfOk result (λ s. s.symbols ≡ (spec.signature_of text.now statements.now).symbols) }
+    ensures symbols { IfOk result (λ s. s.symbols ≡ (spec.signature_of text.now statements.now).symbols) }
 {
     let source = Source {
         alloc,

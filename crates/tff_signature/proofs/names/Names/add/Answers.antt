@@ -6,5 +6,5 @@ use Rattle.tff_signature.proofs.names.Names.add.Goals as goal
 -- src/names.rt:117:5
 pub returns-in_ok-insert : goal.returns-in_ok-insert
 returns-in_ok-insert c =
-    rw (c.in_ok-insert.ensures.keys, c.self.view_is, sym c.in_ok-from_slice.ensures.items)
+    rw (c.in_ok-insert.ensures.keys, ← c.self.view_is, ← c.in_ok-from_slice.ensures.items)
     (add_is (λ v. v.items) c.self.inside.names.keys c.in_ok-from_slice.field-0)
