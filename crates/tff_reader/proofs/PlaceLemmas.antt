@@ -427,8 +427,8 @@ module _ (text : List ℕ) (sig : Signature) where
   relation_spread a b c r s u le h k = record {
     types = λ scope n. spread_same a c (meaning text sig (formula.Relation r s u) scope n).faults (relation_faults text sig.symbols scope s u)
         (ap (λ (m : Meaning). (m scope n).faults) (folds.fold-Relation Meaning (meaning_step text sig) r s u))
-        (spread_both a b c (term_faults text sig.symbols scope s wanted.Term) (term_faults text sig.symbols scope u (right_side text sig.symbols (term_sort text sig.symbols scope s))) (h.0 scope wanted.Term)
-            (k.0 scope (right_side text sig.symbols (term_sort text sig.symbols scope s))));
+        (spread_both a b c (term_faults text sig.symbols scope s wanted.Term) (term_faults text sig.symbols scope u (right_side (term_sort text sig.symbols scope s))) (h.0 scope wanted.Term)
+            (k.0 scope (right_side (term_sort text sig.symbols scope s))));
     products_in = spread_same a c (product_faults (formula.Relation r s u)) ((products s).faults ++ (products u).faults) (folds.fold-Relation Faults product_faults_step r s u)
         (spread_both a b c (products s).faults (products u).faults h.1 k.1);
   }

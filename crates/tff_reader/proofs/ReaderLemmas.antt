@@ -1,12 +1,16 @@
 -- The answers of `read`, by the faults of the phases.
 use Rattle.std.proofs.Common.{◌≡◌, ℕ, List, [], ◌∷◌, ◌++◌, refl, sym, ◌∙◌, ap, subst}
 use Rattle.std.specs.Prelude.{Option, Some, None, Result, Ok, Err}
+use Rattle.term_base.specs.declared.symbols.Symbol.{Symbol}
+use Rattle.formula_base.specs.declared.formulas.Formula.{Formula}
 use Rattle.formula_base.specs.declared.problems.Problem.{Problem}
 use Rattle.tff_grammar.specs.declared.faults.Fault.{Fault}
 use Rattle.tff_grammar.specs.declared.trees.Statement.{Statement}
 use Rattle.tff_grammar.specs.Answer.{IsText, IsFirstFault}
 use Rattle.tff_signature.specs.declared.faults.Later.{Later}
+use Rattle.tff_signature.specs.Names.{Name}
 use Rattle.tff_signature.specs.Faults.{Faults, checked}
+use Rattle.tff_signature.specs.Symbols.{Signature, signature_of}
 use Rattle.tff_reader.specs.declared.stops.Stop.{Stop}
 use Rattle.tff_reader.specs.declared.stops.Stop.TheVariants as stops
 use Rattle.tff_reader.specs.declared.refusals.Refused.{Refused}
@@ -14,6 +18,9 @@ use Rattle.tff_reader.specs.Stops.{first_of, Stops}
 use Rattle.tff_reader.specs.Meaning.{problem_of}
 use Rattle.tff_reader.specs.Answer.{later_faults, IsProblem, IsRefused, by_grammar, behind_grammar, refused_early, refused_later}
 use Rattle.tff_reader.proofs.StopLemmas.{stops_sooner, stops_later, checked_stops}
+
+abbrev pub sign : List Name → List Symbol → Signature
+sign sorts symbols = record { sorts = sorts; symbols = symbols }
 
 -- ---- the phases
 
@@ -29,6 +36,22 @@ stops_products e second third fourth none none' h = stops_later e (second ++ thi
 
 pub no_faults : (second third fourth : Faults) → second ≡ [] → third ≡ [] → fourth ≡ [] → second ++ third ++ fourth ≡ []
 no_faults second third fourth a b c = ap (λ fs. (fs ++ third) ++ fourth) a ∙ ap (λ fs. fs ++ fourth) b ∙ c
+
+-- ---- the problem
+
+pub same_signature : (text : List ℕ) (ss : List Statement) (sorts : List Name) (symbols : List Symbol) → sorts ≡ (signature_of text ss).sorts → symbols ≡ (signature_of text ss).symbols
+    → sign sorts symbols ≡ signature_of text ss
+same_signature text ss sorts symbols e e' = ap (λ (xs : List Name). sign xs symbols) e ∙ ap (sign (signature_of text ss).sorts) e'
+
+abbrev problem : List Symbol → ℕ → List Formula → Option Formula → Problem
+problem symbols sorts premises conjecture = record { symbols = symbols; sorts = sorts; premises = premises; conjecture = conjecture }
+
+pub same_parts : (text : List ℕ) (ss : List Statement) (p : Problem) → p.symbols ≡ (problem_of text ss).symbols → p.sorts ≡ (problem_of text ss).sorts → p.premises ≡ (problem_of text ss).premises
+    → p.conjecture ≡ (problem_of text ss).conjecture → p ≡ problem_of text ss
+same_parts text ss p a b c d =
+    let q = problem_of text ss in
+    ap (λ (x : List Symbol). problem x p.sorts p.premises p.conjecture) a ∙ ap (λ (x : ℕ). problem q.symbols x p.premises p.conjecture) b
+    ∙ ap (λ (x : List Formula). problem q.symbols q.sorts x p.conjecture) c ∙ ap (problem q.symbols q.sorts q.premises) d
 
 -- ---- the answer
 

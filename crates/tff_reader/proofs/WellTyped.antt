@@ -513,10 +513,10 @@ module _ (text : List ℕ) (symbols : List Symbol) (scope : Scope) where
         → IsTypedHere (relation_of r (term_of text symbols scope s) (term_of text symbols scope u))
     typed_relation r s u clean faultless =
         let own = term_faults text symbols scope s wanted.Term in
-        let other = term_faults text symbols scope u (right_side text symbols (term_sort text symbols scope s)) in
+        let other = term_faults text symbols scope u (right_side (term_sort text symbols scope s)) in
         let left = typed_term n below s wanted.Term (front_none own other clean) (front_none (products s).faults (products u).faults faultless) in
         let right = typed_term n below u (wanted.OfSort left.sort)
-            (subst (λ (q : Option Sort). term_faults text symbols scope u (right_side text symbols q) ≡ []) left.has (back_none own other clean)) (back_none (products s).faults (products u).faults faultless) in
+            (subst (λ (q : Option Sort). term_faults text symbols scope u (right_side q) ≡ []) left.has (back_none own other clean)) (back_none (products s).faults (products u).faults faultless) in
         let same = typed_same (term_of text symbols scope s) (term_of text symbols scope u) left.sort left.fits
             (subst (Fits symbols scope (term_of text symbols scope u)) (same_sort-true right.sort left.sort right.suited) right.fits) left.suited in
         at_sign r same

@@ -1,6 +1,8 @@
 -- What is read by a context, and how it leaves the scope. Private contracts alone cite this file.
-use Rattle.std.specs.Prelude.{◌≡◌, ℕ, List, [], ◌++◌, Result, Ok, Err, Some}
+use Rattle.std.specs.Prelude.{◌≡◌, ℕ, List, [], ◌++◌, Result, Ok, Err}
+use Rattle.std.specs.Option.{option_or, option_to_list}
 use Rattle.formula_base.specs.declared.formulas.Formula.{Formula}
+use Rattle.tff_grammar.specs.declared.trees.Content.{Content}
 use Rattle.tff_grammar.specs.declared.trees.Statement.{Statement}
 use Rattle.tff_reader.specs.declared.stops.Stop.{Stop}
 use Rattle.tff_reader.specs.declared.scopes.Scope.{Scope as KeptScope}
@@ -12,7 +14,7 @@ use Rattle.tff_signature.specs.Names.{Name}
 use Rattle.tff_reader.specs.Scopes.{Scope, bind}
 use Rattle.tff_reader.specs.Bindings.{Binds}
 use Rattle.tff_signature.specs.Symbols.{Signature}
-use Rattle.tff_reader.specs.Meaning.{FormulaMeaning, Meaning, members, behind, formulas_of, faults_of, premises_of, conjectures_of, first}
+use Rattle.tff_reader.specs.Meaning.{FormulaMeaning, Meaning, members, behind, formulas_of, faults_of, premise_of, conjecture_of, premises_of, conjectures_of, first}
 
 -- the sorts and symbols of a context
 abbrev pub signature : Context → Signature
@@ -32,6 +34,11 @@ OnReadAll (Err e) kept scope ms n = Stops e (faults_of (members ms scope n))
 pub record AreRead (text : List ℕ) (sig : Signature) (statements : List Statement) (r : Formulas) : Type 0 where
   pub premises : r.premises ≡ premises_of text sig statements
   pub conjecture : r.conjecture ≡ first (conjectures_of text sig statements)
+
+-- formulas with that of one more statement
+pub record AddsFormula (text : List ℕ) (sig : Signature) (c : Content) (old new : Formulas) : Type 0 where
+  pub premises : new.premises ≡ old.premises ++ option_to_list (premise_of text sig c)
+  pub conjecture : new.conjecture ≡ option_or old.conjecture (conjecture_of text sig c)
 
 -- formulas on the way: what was read, and what is left
 pub record IsOnWay (all : List Formula) (number : ℕ) (kept : KeptScope) (scope : Scope) (ms : List Meaning) (n : ℕ) (rest : List Meaning) : Type 0 where
