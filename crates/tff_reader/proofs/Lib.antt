@@ -1,3 +1,14 @@
-pub mod StopLemmas
 pub mod ArgumentLemmas
 pub mod BindingLemmas
+pub mod FormulaLemmas
+pub mod MeaningLemmas
+pub mod Numbered
+pub mod PlaceLemmas
+pub mod ReaderLemmas
+pub mod StopLemmas
+pub mod TermLemmas
+pub mod TreeFolds
+pub mod TreeInduction
+pub mod WayLemmas
+pub mod WellTyped
+pub mod FileLemmas

@@ -10,14 +10,17 @@ abbrev pub first_of : Faults → Option Later
 first_of [] = None
 first_of (f ∷ fs) = Some f
 
--- What is read: there is no fault, and the value is as asked; or the first fault; or memory ran out.
+-- why reading stops: memory ran out, or the first of these faults
+abbrev pub Stops : Stop → Faults → Type 0
+Stops stops.Memory fs = Unit {0}
+Stops (stops.Fault f) fs = first_of fs ≡ Some f
+
+-- What is read: there is no fault, and the value is as asked; or why reading stops.
 abbrev pub Reads : {A : Type 0} → Result A Stop → Faults → (A → Type 0) → Type 0
 Reads (Ok x) fs is = (fs ≡ []) × is x
-Reads (Err stops.Memory) fs is = Unit {0}
-Reads (Err (stops.Fault f)) fs is = first_of fs ≡ Some f
+Reads (Err e) fs is = Stops e fs
 
--- Ok where there is no fault, else the first fault; or memory ran out.
+-- Ok where there is no fault, else why reading stops.
 abbrev pub Stopped : {A : Type 0} → Result A Stop → Faults → Type 0
 Stopped (Ok x) fs = fs ≡ []
-Stopped (Err stops.Memory) fs = Unit {0}
-Stopped (Err (stops.Fault f)) fs = first_of fs ≡ Some f
+Stopped (Err e) fs = Stops e fs

@@ -79,6 +79,11 @@ abbrev pub argument_faults : List Sort → List (Wanted → Faults) → Faults
 argument_faults ss [] = []
 argument_faults ss (a ∷ more) = a (asked ss) ++ argument_faults (drop 1 ss) more
 
+-- what the left side of an equation asks of the right one: its own sort
+abbrev pub right_side : Option Sort → Wanted
+right_side None = wanted.Term
+right_side (Some s) = wanted.OfSort s
+
 module _ (text : List ℕ) (symbols : List Symbol) where
   -- None where a word is no symbol, as the name of a sort
   abbrev pub head_type : Head → Option HeadType
@@ -105,11 +110,6 @@ module _ (text : List ℕ) (symbols : List Symbol) where
   -- the faults of a term where something is asked of it, in reading order
   abbrev pub term_faults : Scope → Term → Wanted → Faults
   term_faults scope = fold-Term (Wanted → Faults) (term_faults_step scope)
-
-  -- what the left side asks of the right one: its own sort
-  abbrev pub right_side : Option Sort → Wanted
-  right_side None = wanted.Term
-  right_side (Some s) = wanted.OfSort s
 
   abbrev pub relation_faults : Scope → Term → Term → Faults
   relation_faults scope s u = term_faults scope s wanted.Term ++ term_faults scope u (right_side (term_sort scope s))

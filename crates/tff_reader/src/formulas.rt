@@ -48,20 +48,41 @@ fn comparison(operation: Operation, terms: Items<Term>) -> Formula
     }
 }
 
-/// A formula and the negation of another, or both, as members.
+/// Two formulas as members.
 fn members_of(
     alloc: Global,
     first: Formula,
     second: Formula,
-) -> Result<Items<Formula>, AllocError> {
+) -> Result<Items<Formula>, AllocError>
+    ensures { IfOk result (λ fs. fs ≡ first ∷ second ∷ []) }
+{
     let mut members = Items::new(alloc);
     members.push(first)?;
     members.push(second)?;
     Ok(members)
 }
 
+/// A truth value as a formula.
+fn constant(value: bool) -> Formula
+    ensures { result ≡ spec.constant_of value }
+{
+    if value { Formula::True } else { Formula::False }
+}
+
+/// Formulas with the same sign between them.
+fn joined(junction: Junction, members: Items<Formula>) -> Formula
+    ensures { result ≡ spec.joined junction members }
+{
+    match junction {
+        Junction::And => Formula::And(members),
+        Junction::Or => Formula::Or(members),
+    }
+}
+
 /// Two formulas with a sign between them.
-fn linked(alloc: Global, link: Link, left: Formula, right: Formula) -> Result<Formula, AllocError> {
+fn linked(alloc: Global, link: Link, left: Formula, right: Formula) -> Result<Formula, AllocError>
+    ensures { IfOk result (λ f. f ≡ spec.linked link left right) }
+{
     match link {
         Link::Implies => Formula::implication(alloc, left, right),
         Link::Implied => {
@@ -185,8 +206,7 @@ impl Context<'_, '_, '_> {
             → OnRead result scope.new sc (spec.meaning self.now.text.now (signature self.now) formula.now sc next) }
     {
         match formula {
-            WrittenFormula::Constant(true) => Ok((Formula::True, next)),
-            WrittenFormula::Constant(false) => Ok((Formula::False, next)),
+            WrittenFormula::Constant(value) => Ok((constant(*value), next)),
             WrittenFormula::Atom(term) => Ok((self.atom(scope, term)?, next)),
             WrittenFormula::Relation(sign, left, right) => {
                 let (first, second) = self.sides(scope, left, right)?;
@@ -209,10 +229,7 @@ impl Context<'_, '_, '_> {
             }
             WrittenFormula::Joined(junction, members) => {
                 let (all, behind) = self.members(scope, next, members.as_slice())?;
-                match junction {
-                    Junction::And => Ok((Formula::And(all), behind)),
-                    Junction::Or => Ok((Formula::Or(all), behind)),
-                }
+                Ok((joined(*junction, all), behind))
             }
         }
     }
@@ -237,5 +254,16 @@ impl Context<'_, '_, '_> {
             number = behind;
         }
         Ok((all, number))
+    }
+
+    /// A formula of a statement, where nothing is bound.
+    pub(crate) fn closed(&self, formula: &WrittenFormula) -> Result<Formula, Stop>
+        requires { IsNamed self.now.signature.now }
+        ensures { Reads result (spec.formula_meaning self.now.text.now (signature self.now) formula.now).faults
+            (λ f. f ≡ (spec.formula_meaning self.now.text.now (signature self.now) formula.now).formula) }
+    {
+        let mut scope = Scope::new(self.alloc);
+        let (read, _) = self.formula(&mut scope, 0, formula)?;
+        Ok(read)
     }
 }

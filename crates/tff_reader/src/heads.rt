@@ -91,6 +91,16 @@ pub(crate) fn asked(sorts: &[Sort]) -> (Wanted, &[Sort])
     }
 }
 
+/// What the left side of an equation, which has this sort, asks of the right one.
+pub(crate) fn right_side(sort: Option<Sort>) -> Wanted
+    ensures { result ≡ spec.right_side sort }
+{
+    match sort {
+        Some(sort) => Wanted::OfSort(sort),
+        None => Wanted::Term,
+    }
+}
+
 fn ill_typed(at: u64) -> Later
     ensures { result ≡ fault LaterName.IllTyped at }
 {

@@ -3,6 +3,7 @@
 
 mod formulas;
 mod heads;
+mod laws;
 mod numbers;
 mod products;
 mod reader;
@@ -13,5 +14,6 @@ mod terms;
 #[cfg(test)]
 mod tests;
 
+pub use laws::{binders_are_numbered, faults_ascend, problem_is_typed};
 pub use reader::read;
 pub use refusals::{ReadError, Refused, RefusedName};

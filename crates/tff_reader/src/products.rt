@@ -99,7 +99,7 @@ fn check_term(alloc: Global, term: &Term) -> Result<(), Stop>
 }
 
 /// The first fault of a formula's products.
-#[tactic(auto, using(crate::proofs::StopLemmas::stopped_sooner, crate::proofs::StopLemmas::stopped_later, crate::proofs::StopLemmas::stopped_behind))]
+#[tactic(auto, using(crate::proofs::StopLemmas::stops_sooner, crate::proofs::StopLemmas::stops_later, crate::proofs::StopLemmas::stopped_behind))]
 fn check_formula(alloc: Global, formula: &Formula) -> Result<(), Stop>
     ensures { Stopped result (spec.product_faults formula.now) }
 {
@@ -126,7 +126,7 @@ fn check_formula(alloc: Global, formula: &Formula) -> Result<(), Stop>
 }
 
 /// The first fault of all products of a file.
-#[tactic(auto, using(crate::proofs::StopLemmas::stopped_sooner, crate::proofs::StopLemmas::stopped_later, crate::proofs::StopLemmas::stopped_behind))]
+#[tactic(auto, using(crate::proofs::StopLemmas::stops_sooner, crate::proofs::StopLemmas::stops_later, crate::proofs::StopLemmas::stopped_behind))]
 pub(crate) fn check_products(alloc: Global, statements: &[Statement]) -> Result<(), Stop>
     ensures { Stopped result (spec.phase_4 statements.now) }
 {

@@ -1,26 +1,33 @@
 //! Reads a problem.
-ghost use Rattle.std.specs.Prelude.{◌≡◌, List, filter_map, IfOk, IfErr, MatchResult};
+ghost use Rattle.std.specs.Prelude.{◌≡◌, List, Some, length, filter_map, IfOk, IfErr, MatchResult};
+ghost use Rattle.std.specs.List.{All};
 ghost use Rattle.tff_grammar.specs.Answer.{IsText};
+ghost use Rattle.formula_base.specs.Binders.{IsNumbered};
+ghost use Rattle.formula_base.specs.Typing.{IsWellTyped, formulas};
 ghost use Rattle.formula_base.specs.declared.problems.Problem as the_problem;
 ghost use Rattle.tff_reader.specs.Answer as spec;
 ghost use Rattle.tff_reader.specs.Answer.{IsProblem, Explains};
 ghost use Rattle.tff_reader.specs.Stops.{Reads};
 ghost use Rattle.tff_reader.specs.Meaning as meaning;
 ghost use Rattle.tff_signature.specs.Tables.{IsNamed};
-ghost use Rattle.tff_reader.specs.Contexts.{signature, AreRead};
+ghost use Rattle.std.specs.Option.{option_or};
+ghost use Rattle.tff_reader.specs.Contexts.{signature, AreRead, AddsFormula};
 
 use crate::products::check_products;
 use crate::refusals::{ReadError, Refused, RefusedName};
-use crate::scopes::Scope;
 use crate::stops::Stop;
 use crate::terms::Context;
 use formula_base::{Formula, Problem};
 use sqlite_items::Items;
 use std::alloc::{AllocError, Global};
 use term_base::Name;
-use tff_grammar::{Content, Fault, FaultName, ParseError, Span, Statement, parse};
+use tff_grammar::{
+    Content, Fault, FaultName, ParseError, Span, Statement, no_fault_of_text, one_text, parse,
+};
 use tff_lexer::{Token, TokenKind};
-use tff_signature::{Later, LaterName, check_declarations, declarations_of, signature_of};
+use tff_signature::{
+    Later, LaterName, Names, check_declarations, declarations_of, signature_of,
+};
 
 fn early_name(name: FaultName) -> RefusedName
     ensures { result ≡ spec.early_name name }
@@ -103,33 +110,63 @@ pub(crate) struct Formulas {
     conjecture: Option<Formula>,
 }
 
+impl Formulas {
+    /// Adds the formula of a statement.
+    fn add(&mut self, context: &Context<'_, '_, '_>, content: &Content) -> Result<(), Stop>
+        requires { IsNamed context.now.signature.now }
+        ensures { Reads result (meaning.content_faults context.now.text.now (signature context.now) content.now)
+            (λ _. AddsFormula context.now.text.now (signature context.now) content.now self.old self.new) }
+    {
+        match content {
+            Content::Declaration(_, _) => Ok(()),
+            Content::Premise(formula) => {
+                let premise = context.closed(formula)?;
+                self.premises.push(premise)?;
+                Ok(())
+            }
+            Content::Conjecture(formula) => {
+                let conjecture = context.closed(formula)?;
+                self.add_conjecture(conjecture);
+                Ok(())
+            }
+        }
+    }
+
+    /// Adds a conjecture, where none came before it.
+    fn add_conjecture(&mut self, conjecture: Formula)
+        ensures premises { self.new.premises ≡ self.old.premises }
+        ensures conjecture { self.new.conjecture ≡ option_or self.old.conjecture (Some conjecture) }
+    {
+        if self.conjecture.is_none() {
+            self.conjecture = Some(conjecture);
+        }
+    }
+}
+
+/// The formulas of the statements.
 fn read_formulas(context: &Context<'_, '_, '_>, statements: &[Statement]) -> Result<Formulas, Stop>
     requires { IsNamed context.now.signature.now }
     ensures { Reads result (meaning.typing_faults context.now.text.now (signature context.now) statements.now)
         (AreRead context.now.text.now (signature context.now) statements.now) }
 {
-    let mut premises = Items::new(context.alloc);
-    let mut conjecture = None;
+    let mut formulas = Formulas {
+        premises: Items::new(context.alloc),
+        conjecture: None,
+    };
     for statement in statements {
-        let mut scope = Scope::new(context.alloc);
-        match &statement.content {
-            Content::Declaration(_, _) => {}
-            Content::Premise(formula) => {
-                let (premise, _) = context.formula(&mut scope, 0, formula)?;
-                premises.push(premise)?;
-            }
-            Content::Conjecture(formula) => {
-                let (denied, _) = context.formula(&mut scope, 0, formula)?;
-                if conjecture.is_none() {
-                    conjecture = Some(denied);
-                }
-            }
-        }
+        formulas.add(context, &statement.content)?;
     }
-    Ok(Formulas {
-        premises,
-        conjecture,
-    })
+    Ok(formulas)
+}
+
+/// How many sorts there are. A number past 2^32 - 1 counts as want of memory.
+fn sort_count(sorts: &Names) -> Result<u32, AllocError>
+    ensures { IfOk result (λ n. n ≡ length sorts.now) }
+{
+    match u32::try_from(sorts.len()) {
+        Ok(count) => Ok(count),
+        Err(_) => Err(AllocError),
+    }
 }
 
 /// The problem of the statements of a text, or the first fault behind the grammar.
@@ -147,10 +184,7 @@ fn problem(alloc: Global, text: &[u8], statements: &[Statement]) -> Result<Probl
     };
     let formulas = read_formulas(context, statements)?;
     check_products(alloc, statements)?;
-    let sorts = match u32::try_from(declared.sorts.len()) {
-        Ok(sorts) => sorts,
-        Err(_) => return Err(Stop::Memory),
-    };
+    let sorts = sort_count(&declared.sorts)?;
     Ok(Problem {
         symbols: signature.symbols,
         sorts,
@@ -165,9 +199,13 @@ fn problem(alloc: Global, text: &[u8], statements: &[Statement]) -> Result<Probl
 pub fn read(alloc: Global, bytes: &[u8]) -> Result<Problem, ReadError>
     ensures ok { IfOk result (IsProblem bytes.now) }
     ensures refused { IfErr result (Explains bytes.now) }
+    ensures typed { IfOk result IsWellTyped }
+    ensures numbered { IfOk result (λ p. All IsNumbered (formulas p)) }
     // A text without a fault is read, and as no other problem, unless memory runs out.
     ensures only { (p : the_problem.Problem) → IsProblem bytes.now p → MatchResult result (λ read. read ≡ p) (λ e. e ≡ ReadError.Memory) }
 {
+    one_text();
+    no_fault_of_text();
     let statements = match parse(alloc, bytes) {
         Ok(statements) => statements,
         Err(ParseError::Memory) => return Err(ReadError::Memory),

@@ -87,6 +87,43 @@ impl From<AllocError> for ReadError {
     }
 }
 
+/// Bytes, each as a character.
+#[derive(Drop)]
+struct Characters<'a>(&'a [u8]);
+
+impl fmt::Display for Characters<'_> {
+    ghost use Rattle.std.specs.Prelude.{Some, flat_map};
+    ghost use Rattle.std.specs.Char.{encode_utf8};
+
+    ghost output = { λ c. Some (flat_map encode_utf8 c.0.now) };
+
+    fn fmt<W: fmt::Write>(&self, f: &mut fmt::Formatter<W>) -> fmt::Result {
+        let bytes = self.0;
+        for byte in bytes {
+            f.write_char(char::from(*byte))?;
+        }
+        Ok(())
+    }
+}
+
+/// A blank and a word, where there is one.
+#[derive(Drop)]
+struct Word<'a>(&'a [u8]);
+
+impl fmt::Display for Word<'_> {
+    ghost use Rattle.std.specs.Prelude.{Some};
+    ghost use Rattle.tff_reader.specs.Answer.{shown_word};
+
+    ghost output = { λ w. Some (shown_word w.0.now) };
+
+    fn fmt<W: fmt::Write>(&self, f: &mut fmt::Formatter<W>) -> fmt::Result {
+        match self.0 {
+            [] => Ok(()),
+            bytes => write!(f, " {}", Characters(bytes)),
+        }
+    }
+}
+
 impl fmt::Display for Refused {
     ghost use Rattle.std.specs.Prelude.{Some};
     ghost use Rattle.tff_reader.specs.Answer.{line};
@@ -94,13 +131,7 @@ impl fmt::Display for Refused {
     ghost output = { λ refused. Some (line refused) };
 
     fn fmt<W: fmt::Write>(&self, f: &mut fmt::Formatter<W>) -> fmt::Result {
-        write!(f, "% refused: {} at {}", self.name, self.at)?;
-        if !self.word.as_bytes().is_empty() {
-            f.write_char(' ')?;
-        }
-        for byte in self.word.as_bytes() {
-            f.write_char(char::from(*byte))?;
-        }
-        Ok(())
+        let word = Word(self.word.as_bytes());
+        write!(f, "% refused: {} at {}{}", self.name, self.at, word)
     }
 }

@@ -72,10 +72,10 @@ impl Scope {
         match self.bindings.pop() {
             Some(binding) => {
                 self.variables.insert(binding.name, binding.hidden)?;
+                Ok(())
             }
-            None => {}
+            None => Ok(()),
         }
-        Ok(())
     }
 
     /// Ends the innermost bindings, so many of them.

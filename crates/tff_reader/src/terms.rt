@@ -10,14 +10,16 @@ ghost use Rattle.tff_reader.specs.Typing as typing;
 ghost use Rattle.tff_reader.specs.Meaning as spec;
 ghost use Rattle.tff_reader.specs.Arguments.{AreMeant, IsMeant, head_faults, pair_of, single_of, applied, operated, combined, scaled_by};
 
-use crate::heads::{HeadType, Wanted, asked, check_head, check_own, head_place, operation_type};
+use crate::heads::{
+    HeadType, Wanted, asked, check_head, check_own, head_place, operation_type, right_side,
+};
 use crate::numbers::{Computed, head_number};
 use crate::scopes::Scope;
 use crate::stops::Stop;
 use sqlite_items::Items;
 use std::alloc::{AllocError, Global};
-use term_base::{Sort, Term};
-use tff_grammar::{Head, Operation, Relation, Span, Term as WrittenTerm};
+use term_base::{Sort, Term, Variable};
+use tff_grammar::{Head, Number, Operation, Span, Term as WrittenTerm};
 use tff_signature::{Names, Signature, name};
 
 /// What formulas are read by: the text, its declared sorts and its symbols.
@@ -99,18 +101,12 @@ impl<'t, 'n, 's> Context<'t, 'n, 's> {
         match term {
             WrittenTerm::Variable(span) => {
                 check_own(wanted, span.start, self.bound_sort(scope, *span))?;
-                let term = match scope.variable(span.bytes(self.text)) {
-                    Some(variable) => Term::Var(variable),
-                    None => Term::True,
-                };
+                let term = variable_term(scope.variable(span.bytes(self.text)));
                 Ok(TermMeaning { number: None, term })
             }
             WrittenTerm::Numeral(number) => {
                 check_own(wanted, number.span.start, Some(Sort::Int))?;
-                Ok(TermMeaning {
-                    number: Some(Computed::Value(number.value)),
-                    term: Term::Num(number.value),
-                })
+                Ok(numeral_meaning(*number))
             }
             WrittenTerm::Apply(head, args) => {
                 let arguments = self.arguments(scope, wanted, *head, args.as_slice())?;
@@ -196,11 +192,7 @@ impl<'t, 'n, 's> Context<'t, 'n, 's> {
             × (t ≡ spec.term_of self.now.text.now self.now.signature.now.symbols sc right.now)) }
     {
         let first = self.term(scope, Wanted::Term, left)?;
-        let asked = match self.term_sort(scope, left) {
-            Some(sort) => Wanted::OfSort(sort),
-            None => Wanted::Term,
-        };
-        let second = self.term(scope, asked, right)?;
+        let second = self.term(scope, right_side(self.term_sort(scope, left)), right)?;
         Ok((first, second))
     }
 
@@ -218,6 +210,27 @@ impl<'t, 'n, 's> Context<'t, 'n, 's> {
     {
         let arguments = self.arguments(scope, Wanted::Predicate, head, args)?;
         Ok(arguments.terms)
+    }
+}
+
+/// What a numeral means.
+fn numeral_meaning(number: Number) -> TermMeaning
+    ensures number { result.number ≡ Some (Computed.Value number.value) }
+    ensures term { result.term ≡ Term.Num number.value }
+{
+    TermMeaning {
+        number: Some(Computed::Value(number.value)),
+        term: Term::Num(number.value),
+    }
+}
+
+/// The term of what a name is bound to.
+fn variable_term(variable: Option<Variable>) -> Term
+    ensures { result ≡ spec.variable_term variable }
+{
+    match variable {
+        Some(variable) => Term::Var(variable),
+        None => Term::True,
     }
 }
 
@@ -246,7 +259,9 @@ fn single(terms: Items<Term>) -> Option<Term>
 }
 
 /// An arithmetic word with the result `$int` over its arguments.
-fn operated(alloc: Global, operation: Operation, arguments: Arguments) -> Result<Term, AllocError> {
+fn operated(alloc: Global, operation: Operation, arguments: Arguments) -> Result<Term, AllocError>
+    ensures { IfOk result (λ t. t ≡ operated operation arguments.numbers arguments.terms) }
+{
     match operation {
         Operation::Uminus => match single(arguments.terms) {
             Some(term) => Term::scale(alloc, -1, term),
