@@ -8,13 +8,13 @@ use std::alloc::{AllocError, Global};
 use std::test::Fail;
 use term_base::{Class, Clause, Kind, Literal, Sort, Symbol, Term, Variable};
 
-// A for an abstraction variable; N, X, D for an ordinary one of sort Int, Individual, or a declared sort
+// A for an abstraction variable; N, X, D. for an ordinary one of sort Int, Individual, or a declared sort
 fn letter(v: Variable) -> &'static str {
     match (v.kind, v.sort) {
         (Kind::Abstraction, _) => "A",
         (Kind::Ordinary, Sort::Int) => "N",
         (Kind::Ordinary, Sort::Individual) => "X",
-        _ => "D0.",
+        _ => "D.",
     }
 }
 
@@ -297,8 +297,8 @@ fn gives_the_clauses_of_quantified_formulas(rt: HostRuntime) -> Result<(), Fail>
         (
             3,
             false,
-            "D0.0 = D0.0 | (A1 + 1) <= 1;",
-            "D0.0 = D0.0 | (A1 + 1) <= 1;",
+            "D.0 = D.0 | (A1 + 1) <= 1;",
+            "D.0 = D.0 | (A1 + 1) <= 1;",
         ),
         (3, true, "s4 != s4;1 <= s5;", "s4 != s4;1 <= s5;"),
         (

@@ -170,19 +170,19 @@ module _ (text : List ℕ) (sig : Signature) where
   all_good = formula_induction (λ a. Good (meaning text sig a))
       (λ b. subst Good (sym (fold-Constant Meaning (meaning_step text sig) b)) (λ scope n. counts_same (binders (constant_of b)) [] n n (no_constant b) (counts_none n)))
       (λ u. subst Good (sym (fold-Atom Meaning (meaning_step text sig) u))
-          (λ scope n. counts_same (binders (atom_step text sig.symbols scope u (out-Term u))) [] n n (no_atom text sig.symbols scope u (out-Term u)) (counts_none n)))
+      (λ scope n. counts_same (binders (atom_step text sig.symbols scope u (out-Term u))) [] n n (no_atom text sig.symbols scope u (out-Term u)) (counts_none n)))
       (λ r s u. subst Good (sym (fold-Relation Meaning (meaning_step text sig) r s u))
-          (λ scope n. counts_same (binders (relation_of r (term_of text sig.symbols scope s) (term_of text sig.symbols scope u))) [] n n
-              (no_relation r (term_of text sig.symbols scope s) (term_of text sig.symbols scope u)) (counts_none n)))
+      (λ scope n. counts_same (binders (relation_of r (term_of text sig.symbols scope s) (term_of text sig.symbols scope u))) [] n n
+      (no_relation r (term_of text sig.symbols scope s) (term_of text sig.symbols scope u)) (counts_none n)))
       (λ a h. subst Good (sym (fold-Not Meaning (meaning_step text sig) a))
-          (λ scope n. counts_same (binders (g.Not (meaning text sig a scope n).formula)) (binders (meaning text sig a scope n).formula) n (meaning text sig a scope n).next
-              (of_not (meaning text sig a scope n).formula) (h scope n)))
+      (λ scope n. counts_same (binders (g.Not (meaning text sig a scope n).formula)) (binders (meaning text sig a scope n).formula) n (meaning text sig a scope n).next
+      (of_not (meaning text sig a scope n).formula) (h scope n)))
       (λ q vs a h. subst Good (sym (fold-Quantified Meaning (meaning_step text sig) q vs a)) (good_quantified q vs (meaning text sig a) h))
       (λ l a b h h'. subst Good (sym (fold-Linked Meaning (meaning_step text sig) l a b)) (good_linked l (meaning text sig a) (meaning text sig b) h h'))
       (λ j gs h. subst Good (sym (fold-Joined Meaning (meaning_step text sig) j gs))
-          (λ scope n. counts_same (binders (joined j (formulas_of (members (map (meaning text sig) gs) scope n)))) (flat_map (λ (vs : List Variable). vs) (map binders (formulas_of (members (map (meaning text sig) gs) scope n))))
-              n (behind (map (meaning text sig) gs) scope n) (of_joined j (formulas_of (members (map (meaning text sig) gs) scope n)))
-              (good_members (map (meaning text sig) gs) (each_map Good (meaning text sig) gs h) scope n)))
+      (λ scope n. counts_same (binders (joined j (formulas_of (members (map (meaning text sig) gs) scope n)))) (flat_map (λ (vs : List Variable). vs) (map binders (formulas_of (members (map (meaning text sig) gs) scope n))))
+      n (behind (map (meaning text sig) gs) scope n) (of_joined j (formulas_of (members (map (meaning text sig) gs) scope n)))
+      (good_members (map (meaning text sig) gs) (each_map Good (meaning text sig) gs h) scope n)))
 
   pub counted_next : (a : WrittenFormula) (scope : Scope) (n : ℕ) → (meaning text sig a scope n).next ≡ n + length (binders (meaning text sig a scope n).formula)
   counted_next a scope n = (all_good a scope n).behind

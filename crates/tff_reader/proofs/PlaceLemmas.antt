@@ -361,7 +361,7 @@ module _ (text : List ℕ) (sig : Signature) where
     spread_same a b (products (term.Apply h us)).faults (numbers.head_fault h (numbers_of (map products us)) ++ flat_map (λ p. p.faults) (map products us))
         (ap (λ (p : Products). p.faults) (folds.fold-Apply Products products_step h us))
         (spread_both a (head_place h + 1) b (numbers.head_fault h (numbers_of (map products us))) (flat_map (λ (p : Products). p.faults) (map products us))
-            (head_product_places a h (numbers_of (map products us)) le) inside.1),
+        (head_product_places a h (numbers_of (map products us)) le) inside.1),
   )
 
   none_spread : (a : ℕ) → TermsSpread a [] a
@@ -428,7 +428,7 @@ module _ (text : List ℕ) (sig : Signature) where
     types = λ scope n. spread_same a c (meaning text sig (formula.Relation r s u) scope n).faults (relation_faults text sig.symbols scope s u)
         (ap (λ (m : Meaning). (m scope n).faults) (folds.fold-Relation Meaning (meaning_step text sig) r s u))
         (spread_both a b c (term_faults text sig.symbols scope s wanted.Term) (term_faults text sig.symbols scope u (right_side (term_sort text sig.symbols scope s))) (h.0 scope wanted.Term)
-            (k.0 scope (right_side (term_sort text sig.symbols scope s))));
+        (k.0 scope (right_side (term_sort text sig.symbols scope s))));
     products_in = spread_same a c (product_faults (formula.Relation r s u)) ((products s).faults ++ (products u).faults) (folds.fold-Relation Faults product_faults_step r s u)
         (spread_both a b c (products s).faults (products u).faults h.1 k.1);
   }
@@ -514,7 +514,7 @@ module _ (text : List ℕ) (sig : Signature) where
         let q = units_places more j n rest r.end_at r.above in
         reaches a q.end_at rest (λ c. FormulaSpread a (formula.Joined j (first ∷ of.unit_of x ∷ of.units_of more)) c) (omega (arith, r.onward, q.onward)) q.above
         (joined_spread a q.end_at j (first ∷ of.unit_of x ∷ of.units_of more)
-            (next_formula_spread a b q.end_at first (of.unit_of x ∷ of.units_of more) h (next_formula_spread b r.end_at q.end_at (of.unit_of x) (of.units_of more) r.holds q.holds)))
+        (next_formula_spread a b q.end_at first (of.unit_of x ∷ of.units_of more) h (next_formula_spread b r.end_at q.end_at (of.unit_of x) (of.units_of more) r.holds q.holds)))
 
     units_places : (x : UnitsTree) (j : Junction) (n : ℕ) (rest : Leveleds) (a : ℕ) → Above a (pieces_of (units_text n j x rest)) → Reaches a rest (λ b. FormulasSpread a (of.units_of x) b)
     units_places tree.no_units j n rest a h = reaches a a rest (λ b. FormulasSpread a [] b) (omega arith) h (no_formulas_spread a)
@@ -569,11 +569,13 @@ module _ (text : List ℕ) (sig : Signature) where
       let r = statement_places x (file_text more) a h in
       let q = file_places more r.end_at r.above in
       let c = of.body_of x.body in
-      let ss = of.file_of more in
-      (q.0, record {
-        types = spread_both a r.end_at q.0 (content_faults text sig c) (typing_faults text sig ss) r.holds.types q.1.types;
-        products_in = spread_both a r.end_at q.0 (content_products c) (phase_4 ss) r.holds.products_in q.1.products_in;
-      })
+      let ss = of.file_of more in (
+        q.0,
+        record {
+          types = spread_both a r.end_at q.0 (content_faults text sig c) (typing_faults text sig ss) r.holds.types q.1.types;
+          products_in = spread_both a r.end_at q.0 (content_products c) (phase_4 ss) r.holds.products_in q.1.products_in;
+        },
+      )
 
 -- ---- the law
 

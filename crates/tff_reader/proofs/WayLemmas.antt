@@ -87,7 +87,7 @@ module _ (f : WrittenTerm → TermMeaning) (a : WrittenTerm → Wanted → Fault
   args_all r left over =
       args_end faults ss ms r
       (subst (λ (xs : List TermMeaning). AreOnWay r.numbers r.terms faults ss ms xs []) (at_drop_all (map f) us i over)
-          (subst (λ (xs : List (Wanted → Faults)). AreOnWay r.numbers r.terms faults ss ms (map f (drop i us)) xs) (at_drop_all (map a) us i over) left))
+      (subst (λ (xs : List (Wanted → Faults)). AreOnWay r.numbers r.terms faults ss ms (map f (drop i us)) xs) (at_drop_all (map a) us i over) left))
 
 -- ---- formulas
 

@@ -183,12 +183,12 @@ module _ (text : List ℕ) (symbols : List Symbol) (scope : Scope) where
   one_number : (u : WrittenTerm) → (products u).number ≡ (term_meaning text symbols scope u).number
   one_number = term_induction (λ u. (products u).number ≡ (term_meaning text symbols scope u).number)
       (λ s. ap (λ (p : Products). p.number) (trees_of.fold-Variable Products products_step s)
-          ∙ sym (ap (λ (m : TermMeaning). m.number) (trees_of.fold-Variable TermMeaning (term_meaning_step text symbols scope) s)))
+      ∙ sym (ap (λ (m : TermMeaning). m.number) (trees_of.fold-Variable TermMeaning (term_meaning_step text symbols scope) s)))
       (λ m. ap (λ (p : Products). p.number) (trees_of.fold-Numeral Products products_step m)
-          ∙ sym (ap (λ (r : TermMeaning). r.number) (trees_of.fold-Numeral TermMeaning (term_meaning_step text symbols scope) m)))
+      ∙ sym (ap (λ (r : TermMeaning). r.number) (trees_of.fold-Numeral TermMeaning (term_meaning_step text symbols scope) m)))
       (λ h us same. ap (λ (p : Products). p.number) (trees_of.fold-Apply Products products_step h us)
-          ∙ ap (head_number h) (numbers_alike us same)
-          ∙ sym (ap (λ (m : TermMeaning). m.number) (trees_of.fold-Apply TermMeaning (term_meaning_step text symbols scope) h us)))
+      ∙ ap (head_number h) (numbers_alike us same)
+      ∙ sym (ap (λ (m : TermMeaning). m.number) (trees_of.fold-Apply TermMeaning (term_meaning_step text symbols scope) h us)))
 
 -- ---- terms
 
@@ -382,7 +382,7 @@ module _ (text : List ℕ) (symbols : List Symbol) (scope : Scope) where
   head_term_fits (head.Word w) ms ty is args clean =
       let s = mapped_some (λ (x : Symbol). record { args = x.args; result = x.result }) (symbol_named symbols (name_of text w)) ty is in
       let fits = fits_app symbols scope (symbol_number symbols (name_of text w)) s.0 (terms_of ms) s.1.0
-          (subst (λ (y : HeadType). ArgsFit symbols scope (terms_of ms) y.args) (sym s.1.1) args) in
+      (subst (λ (y : HeadType). ArgsFit symbols scope (terms_of ms) y.args) (sym s.1.1) args) in
       subst (λ (y : HeadType). Fits symbols scope (term.App (symbol_number symbols (name_of text w)) (terms_of ms)) y.result) s.1.1 fits
   head_term_fits (head.Operation op s) ms ty is args clean =
       let same : operation_type op ≡ ty = cc in
@@ -403,8 +403,8 @@ module _ (text : List ℕ) (symbols : List Symbol) (scope : Scope) where
       let inside = flat_map (λ (p : Products). p.faults) (map products us) in
       let every : numbers.head_fault h (numbers_of (map products us)) ++ inside ≡ [] = sym (ap (λ (p : Products). p.faults) (trees_of.fold-Apply Products products_step h us)) ∙ faultless in
       let fitted : HeadFits w (length us) (head_type text symbols h) =
-          subst (λ (n : ℕ). HeadFits w n (head_type text symbols h)) (length-map us (term_faults text symbols scope))
-          (head_fits w (head_place h) (length (map (term_faults text symbols scope) us)) (head_type text symbols h) (front_none head_part rest all)) in
+      subst (λ (n : ℕ). HeadFits w n (head_type text symbols h)) (length-map us (term_faults text symbols scope))
+      (head_fits w (head_place h) (length (map (term_faults text symbols scope) us)) (head_type text symbols h) (front_none head_part rest all)) in
       record {
         fitted = fitted;
         args = typed_args us typed fitted.type.args fitted.many
@@ -442,7 +442,7 @@ module _ (text : List ℕ) (symbols : List Symbol) (scope : Scope) where
       both_true (is_closed symbols (vars scope) (tree a) && is_closed symbols (vars scope) (tree b)) (has_sort (sorting.sort symbols (tree a)) sorts.Int && has_sort (sorting.sort symbols (tree b)) sorts.Int)
       (both_true (is_closed symbols (vars scope) (tree a)) (is_closed symbols (vars scope) (tree b)) h.closed k.closed)
       (both_true (has_sort (sorting.sort symbols (tree a)) sorts.Int) (has_sort (sorting.sort symbols (tree b)) sorts.Int)
-          (has_sort_of symbols scope (sorting.sort symbols (tree a)) sorts.Int h.sorted) (has_sort_of symbols scope (sorting.sort symbols (tree b)) sorts.Int k.sorted))
+      (has_sort_of symbols scope (sorting.sort symbols (tree a)) sorts.Int h.sorted) (has_sort_of symbols scope (sorting.sort symbols (tree b)) sorts.Int k.sorted))
 
   typed_less : (a b : Term) → Fits symbols scope a sorts.Int → Fits symbols scope b sorts.Int → IsTypedHere (g.Less a b)
   typed_less a b h k = typed_by (g.Less a b) (λ binders. is_inequality symbols binders (tree a) (tree b)) (folds.fold-Less (List Variable → Bool) (typed_step symbols) a b) (ints_hold a b h k)
@@ -480,7 +480,7 @@ module _ (text : List ℕ) (symbols : List Symbol) (scope : Scope) where
     applied_atom (head.Word w) us clean faultless =
         atom_as (written.Apply (head.Word w) us) (t.Apply (head.Word w) us) (written.outs-Apply (head.Word w) us)
         (typed_atom (term_of text symbols scope (written.Apply (head.Word w) us))
-            (predicate_fits (written.Apply (head.Word w) us) (typed_term n below (written.Apply (head.Word w) us) wanted.Predicate clean faultless)))
+        (predicate_fits (written.Apply (head.Word w) us) (typed_term n below (written.Apply (head.Word w) us) wanted.Predicate clean faultless)))
     applied_atom (head.Operation op s) us clean faultless =
         let at = headed wanted.Predicate (head.Operation op s) us (each_of (typed_term n below) us) clean faultless in
         let same : operation_type op ≡ at.fitted.type = at_some (operation_type op) at.fitted.type at.fitted.is in
@@ -491,20 +491,20 @@ module _ (text : List ℕ) (symbols : List Symbol) (scope : Scope) where
     typed_atom_of : (u : WrittenTerm) → AtomTyped u
     typed_atom_of = term_induction AtomTyped
         (λ s clean faultless. atom_as (written.Variable s) (t.Variable s) (written.outs-Variable s)
-            (typed_atom (term_of text symbols scope (written.Variable s)) (predicate_fits (written.Variable s) (typed_term n below (written.Variable s) wanted.Predicate clean faultless))))
+        (typed_atom (term_of text symbols scope (written.Variable s)) (predicate_fits (written.Variable s) (typed_term n below (written.Variable s) wanted.Predicate clean faultless))))
         (λ m clean faultless. atom_as (written.Numeral m) (t.Numeral m) (written.outs-Numeral m)
-            (typed_atom (term_of text symbols scope (written.Numeral m)) (predicate_fits (written.Numeral m) (typed_term n below (written.Numeral m) wanted.Predicate clean faultless))))
+        (typed_atom (term_of text symbols scope (written.Numeral m)) (predicate_fits (written.Numeral m) (typed_term n below (written.Numeral m) wanted.Predicate clean faultless))))
         (λ h us typed. applied_atom h us)
 
     typed_same : (a b : Term) (s : Sort) → Fits symbols scope a s → Fits symbols scope b s → not (same_sort s sorts.Truth) ≡ true → IsTypedHere (g.Same a b)
     typed_same a b s h k other =
         typed_by (g.Same a b) (λ binders. is_equation symbols binders (tree a) (tree b)) (folds.fold-Same (List Variable → Bool) (typed_step symbols) a b)
         (both_true (is_closed symbols (vars scope) (tree a) && is_closed symbols (vars scope) (tree b))
-            (are_alike (sorting.sort symbols (tree a)) (sorting.sort symbols (tree b)) && not (has_sort (sorting.sort symbols (tree a)) sorts.Truth))
-            (both_true (is_closed symbols (vars scope) (tree a)) (is_closed symbols (vars scope) (tree b)) h.closed k.closed)
-            (ap (λ (q : Option Sort). are_alike q (sorting.sort symbols (tree b)) && not (has_sort q sorts.Truth)) h.sorted
-            ∙ ap (λ (q : Option Sort). has_sort q s && not (same_sort s sorts.Truth)) k.sorted
-            ∙ both_true (same_sort s s) (not (same_sort s sorts.Truth)) (same_sort-refl s) other))
+        (are_alike (sorting.sort symbols (tree a)) (sorting.sort symbols (tree b)) && not (has_sort (sorting.sort symbols (tree a)) sorts.Truth))
+        (both_true (is_closed symbols (vars scope) (tree a)) (is_closed symbols (vars scope) (tree b)) h.closed k.closed)
+        (ap (λ (q : Option Sort). are_alike q (sorting.sort symbols (tree b)) && not (has_sort q sorts.Truth)) h.sorted
+        ∙ ap (λ (q : Option Sort). has_sort q s && not (same_sort s sorts.Truth)) k.sorted
+        ∙ both_true (same_sort s s) (not (same_sort s sorts.Truth)) (same_sort-refl s) other))
 
     typed_not : (a : Formula) → IsTypedHere a → IsTypedHere (g.Not a)
     typed_not a h = typed_by (g.Not a) (λ binders. is_typed symbols a binders) (folds.fold-Not (List Variable → Bool) (typed_step symbols) a) h
@@ -516,9 +516,9 @@ module _ (text : List ℕ) (symbols : List Symbol) (scope : Scope) where
         let other = term_faults text symbols scope u (right_side (term_sort text symbols scope s)) in
         let left = typed_term n below s wanted.Term (front_none own other clean) (front_none (products s).faults (products u).faults faultless) in
         let right = typed_term n below u (wanted.OfSort left.sort)
-            (subst (λ (q : Option Sort). term_faults text symbols scope u (right_side q) ≡ []) left.has (back_none own other clean)) (back_none (products s).faults (products u).faults faultless) in
+        (subst (λ (q : Option Sort). term_faults text symbols scope u (right_side q) ≡ []) left.has (back_none own other clean)) (back_none (products s).faults (products u).faults faultless) in
         let same = typed_same (term_of text symbols scope s) (term_of text symbols scope u) left.sort left.fits
-            (subst (Fits symbols scope (term_of text symbols scope u)) (same_sort-true right.sort left.sort right.suited) right.fits) left.suited in
+        (subst (Fits symbols scope (term_of text symbols scope u)) (same_sort-true right.sort left.sort right.suited) right.fits) left.suited in
         at_sign r same
       where
         at_sign : (r : Relation) → IsTypedHere (g.Same (term_of text symbols scope s) (term_of text symbols scope u)) → IsTypedHere (relation_of r (term_of text symbols scope s) (term_of text symbols scope u))
@@ -587,7 +587,7 @@ module _ (text : List ℕ) (sig : Signature) where
       let body = meaning text sig a own (n + length vs) in
       holds_quantified sig.symbols (vars scope) q (variables_from text sig.sorts n vs) body.formula
       (subst (λ (bs : List Variable). is_typed sig.symbols body.formula bs ≡ true) (bind_vars text sig.sorts n vs scope)
-          (h own (n + length vs) (bind_descends text sig.sorts n vs scope below) clean faultless))
+      (h own (n + length vs) (bind_descends text sig.sorts n vs scope below) clean faultless))
 
   sound_linked : (l : Link) (a b : WrittenFormula) → FormulaSound a → FormulaSound b
       → Sound (meaning_step text sig (f.Linked l (meaning text sig a) (meaning text sig b))) (product_faults a ++ product_faults b)
@@ -614,24 +614,24 @@ module _ (text : List ℕ) (sig : Signature) where
   all_sound : (a : WrittenFormula) → FormulaSound a
   all_sound = formula_induction FormulaSound
       (λ b. sound_as (meaning text sig (written_formula.Constant b)) (meaning_step text sig (f.Constant b)) (product_faults (written_formula.Constant b)) []
-          (trees_of.fold-Constant Meaning (meaning_step text sig) b) (trees_of.fold-Constant Faults product_faults_step b)
-          (λ scope n below clean faultless. holds_constant sig.symbols (vars scope) b))
+      (trees_of.fold-Constant Meaning (meaning_step text sig) b) (trees_of.fold-Constant Faults product_faults_step b)
+      (λ scope n below clean faultless. holds_constant sig.symbols (vars scope) b))
       (λ u. sound_as (meaning text sig (written_formula.Atom u)) (meaning_step text sig (f.Atom u)) (product_faults (written_formula.Atom u)) (products u).faults
-          (trees_of.fold-Atom Meaning (meaning_step text sig) u) (trees_of.fold-Atom Faults product_faults_step u)
-          (λ scope n below clean faultless. typed_atom_of text sig.symbols scope n below u clean faultless))
+      (trees_of.fold-Atom Meaning (meaning_step text sig) u) (trees_of.fold-Atom Faults product_faults_step u)
+      (λ scope n below clean faultless. typed_atom_of text sig.symbols scope n below u clean faultless))
       (λ r s u. sound_as (meaning text sig (written_formula.Relation r s u)) (meaning_step text sig (f.Relation r s u)) (product_faults (written_formula.Relation r s u)) ((products s).faults ++ (products u).faults)
-          (trees_of.fold-Relation Meaning (meaning_step text sig) r s u) (trees_of.fold-Relation Faults product_faults_step r s u)
-          (λ scope n below clean faultless. typed_relation text sig.symbols scope n below r s u clean faultless))
+      (trees_of.fold-Relation Meaning (meaning_step text sig) r s u) (trees_of.fold-Relation Faults product_faults_step r s u)
+      (λ scope n below clean faultless. typed_relation text sig.symbols scope n below r s u clean faultless))
       (λ a h. sound_as (meaning text sig (written_formula.Not a)) (meaning_step text sig (f.Not (meaning text sig a))) (product_faults (written_formula.Not a)) (product_faults a)
-          (trees_of.fold-Not Meaning (meaning_step text sig) a) (trees_of.fold-Not Faults product_faults_step a)
-          (λ scope n below clean faultless. holds_not sig.symbols (vars scope) (meaning text sig a scope n).formula (h scope n below clean faultless)))
+      (trees_of.fold-Not Meaning (meaning_step text sig) a) (trees_of.fold-Not Faults product_faults_step a)
+      (λ scope n below clean faultless. holds_not sig.symbols (vars scope) (meaning text sig a scope n).formula (h scope n below clean faultless)))
       (λ q vs a h. sound_as (meaning text sig (written_formula.Quantified q vs a)) (meaning_step text sig (f.Quantified q vs (meaning text sig a))) (product_faults (written_formula.Quantified q vs a)) (product_faults a)
-          (trees_of.fold-Quantified Meaning (meaning_step text sig) q vs a) (trees_of.fold-Quantified Faults product_faults_step q vs a) (sound_quantified q vs a h))
+      (trees_of.fold-Quantified Meaning (meaning_step text sig) q vs a) (trees_of.fold-Quantified Faults product_faults_step q vs a) (sound_quantified q vs a h))
       (λ l a b h k. sound_as (meaning text sig (written_formula.Linked l a b)) (meaning_step text sig (f.Linked l (meaning text sig a) (meaning text sig b))) (product_faults (written_formula.Linked l a b)) (product_faults a ++ product_faults b)
-          (trees_of.fold-Linked Meaning (meaning_step text sig) l a b) (trees_of.fold-Linked Faults product_faults_step l a b) (sound_linked l a b h k))
+      (trees_of.fold-Linked Meaning (meaning_step text sig) l a b) (trees_of.fold-Linked Faults product_faults_step l a b) (sound_linked l a b h k))
       (λ j gs h. sound_as (meaning text sig (written_formula.Joined j gs)) (meaning_step text sig (f.Joined j (map (meaning text sig) gs))) (product_faults (written_formula.Joined j gs)) (flat_map (λ (fs : Faults). fs) (map product_faults gs))
-          (trees_of.fold-Joined Meaning (meaning_step text sig) j gs) (trees_of.fold-Joined Faults product_faults_step j gs)
-          (λ scope n below clean faultless. holds_joined sig.symbols (vars scope) j (formulas_of (members (map (meaning text sig) gs) scope n)) (sound_members gs h scope n below clean faultless)))
+      (trees_of.fold-Joined Meaning (meaning_step text sig) j gs) (trees_of.fold-Joined Faults product_faults_step j gs)
+      (λ scope n below clean faultless. holds_joined sig.symbols (vars scope) j (formulas_of (members (map (meaning text sig) gs) scope n)) (sound_members gs h scope n below clean faultless)))
 
   -- ---- the file
 

@@ -49,11 +49,7 @@ fn comparison(operation: Operation, terms: Items<Term>) -> Formula
 }
 
 /// Two formulas as members.
-fn members_of(
-    alloc: Global,
-    first: Formula,
-    second: Formula,
-) -> Result<Items<Formula>, AllocError>
+fn members_of(alloc: Global, first: Formula, second: Formula) -> Result<Items<Formula>, AllocError>
     ensures { IfOk result (λ fs. fs ≡ first ∷ second ∷ []) }
 {
     let mut members = Items::new(alloc);

@@ -25,9 +25,7 @@ use tff_grammar::{
     Content, Fault, FaultName, ParseError, Span, Statement, no_fault_of_text, one_text, parse,
 };
 use tff_lexer::{Token, TokenKind};
-use tff_signature::{
-    Later, LaterName, Names, check_declarations, declarations_of, signature_of,
-};
+use tff_signature::{Later, LaterName, Names, check_declarations, declarations_of, signature_of};
 
 fn early_name(name: FaultName) -> RefusedName
     ensures { result ≡ spec.early_name name }

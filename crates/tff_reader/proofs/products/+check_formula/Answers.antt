@@ -16,7 +16,7 @@ returns-in_err-check_formula-in-Joined t c =
     let e = c.in_err-check_formula-in-Joined.field-0 in
     let r : c.from_residual-in_err-check_formula-in-Joined.result ≡ Err e.0 = search rules in
     rw r (stops_same e.0 (product_faults c.args.formula.now) _ c.loop-member.invariant
-        (members_stop product_faults gs c.loop-member.member-index c.member-item.result (omega arith) c.member-item.is e.0 c.in_err-check_formula-in-Joined.ensures))
+    (members_stop product_faults gs c.loop-member.member-index c.member-item.result (omega arith) c.member-item.is e.0 c.in_err-check_formula-in-Joined.ensures))
 
 pub returns-after-loop-member : goal.returns-after-loop-member
 returns-after-loop-member t c =

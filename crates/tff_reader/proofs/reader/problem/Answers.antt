@@ -54,7 +54,8 @@ returns c =
     let declares = c.in_ok-declared.ensures in
     let same = same_signature text ss c.in_ok-declared.declared.sorts c.in_ok-signature.signature.symbols declares.sorts c.in_ok-signature.ensures.symbols in
     let read = c.in_ok-formulas.ensures in
-    let typed : phase_3 text ss ≡ [] = sym (ap (λ (s : Signature). typing_faults text s ss) same) ∙ read.0 in
-    (no_faults (phase_2 text ss) (phase_3 text ss) (phase_4 ss) none typed c.in_ok-check_products.ensures,
-        same_parts text ss _ c.in_ok-signature.ensures.symbols (c.in_ok-sorts.ensures ∙ ap length declares.sorts)
-        (read.1.premises ∙ ap (λ (s : Signature). premises_of text s ss) same) (read.1.conjecture ∙ ap (λ (s : Signature). first (conjectures_of text s ss)) same))
+    let typed : phase_3 text ss ≡ [] = sym (ap (λ (s : Signature). typing_faults text s ss) same) ∙ read.0 in (
+      no_faults (phase_2 text ss) (phase_3 text ss) (phase_4 ss) none typed c.in_ok-check_products.ensures,
+      same_parts text ss _ c.in_ok-signature.ensures.symbols (c.in_ok-sorts.ensures ∙ ap length declares.sorts)
+          (read.1.premises ∙ ap (λ (s : Signature). premises_of text s ss) same) (read.1.conjecture ∙ ap (λ (s : Signature). first (conjectures_of text s ss)) same),
+    )

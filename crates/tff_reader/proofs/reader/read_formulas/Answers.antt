@@ -31,7 +31,7 @@ returns-in_err-add c =
     let e = c.in_err-add.field-0.0 in
     let r : c.from_residual.result ≡ Err e = search rules in
     rw r (stops_same e (typing_faults text sig ss) _ c.loop-statement.invariant.faults
-        (parts_stop (λ x. content_faults text sig x.content) ss i c.statement-item.result (omega arith) c.statement-item.is e c.in_err-add.ensures))
+    (parts_stop (λ x. content_faults text sig x.content) ss i c.statement-item.result (omega arith) c.statement-item.is e c.in_err-add.ensures))
 
 pub returns : goal.returns
 returns c =
@@ -39,8 +39,10 @@ returns c =
     let sig = signature c.args.context.now in
     let ss : List Statement = c.args.statements.now in
     let i = c.loop-statement.statement-index in
-    let inv = c.loop-statement.invariant in
-    (inv.faults ∙ parts_end (λ x. content_faults text sig x.content) ss i (omega arith), record {
-      premises = kept_all (λ x. premise_of text sig x.content) ss i _ c.loop-statement.formulas.premises (omega arith) inv.premises;
-      conjecture = first_all (λ x. conjecture_of text sig x.content) ss i _ c.loop-statement.formulas.conjecture (omega arith) inv.conjecture;
-    })
+    let inv = c.loop-statement.invariant in (
+      inv.faults ∙ parts_end (λ x. content_faults text sig x.content) ss i (omega arith),
+      record {
+        premises = kept_all (λ x. premise_of text sig x.content) ss i _ c.loop-statement.formulas.premises (omega arith) inv.premises;
+        conjecture = first_all (λ x. conjecture_of text sig x.content) ss i _ c.loop-statement.formulas.conjecture (omega arith) inv.conjecture;
+      },
+    )

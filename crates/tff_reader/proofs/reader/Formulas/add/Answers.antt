@@ -29,7 +29,10 @@ pub returns-in_ok-conjecture-in-Conjecture : goal.returns-in_ok-conjecture-in-Co
 returns-in_ok-conjecture-in-Conjecture c =
     let read = c.in_ok-conjecture-in-Conjecture.ensures in
     let old = c.args.self.now in
-    rw c.in-Conjecture.is (read.0, record {
-      premises = c.add_conjecture.ensures.premises ∙ sym (append-nil old.premises);
-      conjecture = c.add_conjecture.ensures.conjecture ∙ ap (λ f. option_or old.conjecture (Some f)) read.1;
-    })
+    rw c.in-Conjecture.is (
+      read.0,
+      record {
+        premises = c.add_conjecture.ensures.premises ∙ sym (append-nil old.premises);
+        conjecture = c.add_conjecture.ensures.conjecture ∙ ap (λ f. option_or old.conjecture (Some f)) read.1;
+      },
+    )

@@ -56,7 +56,7 @@ formula-returns-in_err-body-in-Quantified t c = λ sc b.
     let r : c.from_residual-in_err-body-in-Quantified.result ≡ Err e = search rules in
     rw (r, c.in-Quantified.is, ← c.as_slice.ensures, ← c.get-in-Quantified.ensures)
     (quantified_stops self.text.now (signature self) sc c.args.next c.in-Quantified.quantifier vs c.get-in-Quantified.result.now c.in_ok-bound-in-Quantified.inside e c.in_ok-bound-in-Quantified.ensures.number
-        (c.in_err-body-in-Quantified.ensures (bind self.text.now self.sorts.now c.args.next vs sc) (c.in_ok-bound-in-Quantified.ensures.scope sc b)))
+    (c.in_err-body-in-Quantified.ensures (bind self.text.now self.sorts.now c.args.next vs sc) (c.in_ok-bound-in-Quantified.ensures.scope sc b)))
 
 pub formula-returns-in_ok-quantified-in-Quantified : goal.formula-returns-in_ok-quantified-in-Quantified
 formula-returns-in_ok-quantified-in-Quantified t c = λ sc b.
@@ -67,8 +67,8 @@ formula-returns-in_ok-quantified-in-Quantified t c = λ sc b.
     let body = c.in_ok-body-in-Quantified.ensures inner (c.in_ok-bound-in-Quantified.ensures.scope sc b) in
     rw (c.in-Quantified.is, ← c.as_slice.ensures, ← c.get-in-Quantified.ensures)
     (quantified_reads self.text.now (signature self) sc c.args.next c.in-Quantified.quantifier vs c.get-in-Quantified.result.now _ _ c.in_ok-bound-in-Quantified.bound c.in_ok-body-in-Quantified.body _
-        c.in_ok-bound-in-Quantified.inside c.in_ok-body-in-Quantified.behind c.in_ok-bound-in-Quantified.ensures.number c.in_ok-bound-in-Quantified.ensures.bound body
-        (subst (λ n. Binds c.leave.new.self (drop n inner)) many (c.in_ok-leave-in-Quantified.ensures inner body.3)) c.in_ok-quantified-in-Quantified.ensures)
+    c.in_ok-bound-in-Quantified.inside c.in_ok-body-in-Quantified.behind c.in_ok-bound-in-Quantified.ensures.number c.in_ok-bound-in-Quantified.ensures.bound body
+    (subst (λ n. Binds c.leave.new.self (drop n inner)) many (c.in_ok-leave-in-Quantified.ensures inner body.3)) c.in_ok-quantified-in-Quantified.ensures)
 
 pub formula-returns-in_err-first-in-Linked : goal.formula-returns-in_err-first-in-Linked
 formula-returns-in_err-first-in-Linked t c = λ sc b.
@@ -84,14 +84,14 @@ formula-returns-in_err-second-in-Linked t c = λ sc b.
     let first = c.in_ok-first-in-Linked.ensures sc b in
     rw (r, c.in-Linked.is, ← c.get-in-Linked.ensures, ← c.get-in-Linked-2.ensures)
     (linked_stops_second c.args.self.now.text.now (signature c.args.self.now) sc c.args.next c.in-Linked.link c.get-in-Linked.result.now c.get-in-Linked-2.result.now _ c.in_ok-first-in-Linked.first
-        c.in_ok-first-in-Linked.between e first (c.in_err-second-in-Linked.ensures sc first.3))
+    c.in_ok-first-in-Linked.between e first (c.in_err-second-in-Linked.ensures sc first.3))
 
 pub formula-returns-in_ok-linked-in-Linked : goal.formula-returns-in_ok-linked-in-Linked
 formula-returns-in_ok-linked-in-Linked t c = λ sc b.
     let first = c.in_ok-first-in-Linked.ensures sc b in
     rw (c.in-Linked.is, ← c.get-in-Linked.ensures, ← c.get-in-Linked-2.ensures)
     (linked_reads c.args.self.now.text.now (signature c.args.self.now) sc c.args.next c.in-Linked.link c.get-in-Linked.result.now c.get-in-Linked-2.result.now _ _ c.in_ok-first-in-Linked.first
-        c.in_ok-second-in-Linked.second _ c.in_ok-first-in-Linked.between c.in_ok-second-in-Linked.behind first (c.in_ok-second-in-Linked.ensures sc first.3) c.in_ok-linked-in-Linked.ensures)
+    c.in_ok-second-in-Linked.second _ c.in_ok-first-in-Linked.between c.in_ok-second-in-Linked.behind first (c.in_ok-second-in-Linked.ensures sc first.3) c.in_ok-linked-in-Linked.ensures)
 
 pub formula-returns-in_err-all-in-Joined : goal.formula-returns-in_err-all-in-Joined
 formula-returns-in_err-all-in-Joined t c = λ sc b.
@@ -104,7 +104,7 @@ pub formula-returns-in_ok-all-in-Joined : goal.formula-returns-in_ok-all-in-Join
 formula-returns-in_ok-all-in-Joined t c = λ sc b.
     rw (c.in-Joined.is, ← c.as_slice-in-Joined.ensures)
     (joined_reads c.args.self.now.text.now (signature c.args.self.now) sc c.args.next c.in-Joined.junction c.as_slice-in-Joined.result.now _ c.in_ok-all-in-Joined.all _ c.in_ok-all-in-Joined.behind
-        (c.in_ok-all-in-Joined.ensures sc b) c.joined.ensures)
+    (c.in_ok-all-in-Joined.ensures sc b) c.joined.ensures)
 
 pub members-loop-member-init : goal.members-loop-member-init
 members-loop-member-init t c = λ sc b. way_begin c.new-all.result c.args.next c.args.scope.now sc _ c.new-all.ensures b
@@ -117,7 +117,7 @@ members-returns-in_err-formula t c = λ sc b.
     let e = c.in_err-formula.field-0.0 in
     let r : c.from_residual.result ≡ Err e = search rules in
     rw r (way_step_stop (meaning self.text.now (signature self)) gs c.loop-member.member-index sc _ c.args.next c.loop-member.all c.loop-member.number c.loop-member.scope c.member-item.result way (omega arith)
-        c.member-item.is e (c.in_err-formula.ensures sc way.binds))
+    c.member-item.is e (c.in_err-formula.ensures sc way.binds))
 
 pub members-loop-member-preserved : goal.members-loop-member-preserved
 members-loop-member-preserved t c = λ sc b.

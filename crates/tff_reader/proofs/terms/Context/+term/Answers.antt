@@ -25,7 +25,7 @@ arguments-loop-arg-init t c = λ sc b.
     let self = c.args.self.now in
     args_begin c.new-numbers.result c.new-terms.result _ c.in_ok-sorts.sorts.now _ _ c.new-numbers.ensures c.new-terms.ensures
     (head_goes_on self.text.now self.signature.now.symbols sc c.args.wanted c.args.head c.args.args.now _ _ c.head_place.ensures c.head_type.ensures c.in_ok-sorts.sorts.now
-        c.in_ok-sorts.ensures.ok.0 c.in_ok-sorts.ensures.ok.1)
+    c.in_ok-sorts.ensures.ok.0 c.in_ok-sorts.ensures.ok.1)
 
 pub arguments-returns-in_err-meaning : goal.arguments-returns-in_err-meaning
 arguments-returns-in_err-meaning t c = λ sc b.
@@ -34,7 +34,7 @@ arguments-returns-in_err-meaning t c = λ sc b.
     let e = c.in_err-meaning.field-0.0 in
     let r : c.from_residual-in_err-meaning.result ≡ Err e = search rules in
     rw r (args_step_stop (term_meaning self.text.now self.signature.now.symbols sc) (term_faults self.text.now self.signature.now.symbols sc) us c.loop-arg.arg-index _ c.loop-arg.rest.now _
-        c.loop-arg.numbers c.loop-arg.terms c.arg-item.result c.asked-asks.result.0 (c.loop-arg.invariant sc b) (omega arith) c.arg-item.is c.asked-asks.ensures.wanted e (c.in_err-meaning.ensures sc b))
+    c.loop-arg.numbers c.loop-arg.terms c.arg-item.result c.asked-asks.result.0 (c.loop-arg.invariant sc b) (omega arith) c.arg-item.is c.asked-asks.ensures.wanted e (c.in_err-meaning.ensures sc b))
 
 pub arguments-loop-arg-preserved : goal.arguments-loop-arg-preserved
 arguments-loop-arg-preserved t c = λ sc b.
@@ -82,7 +82,7 @@ meaning-returns-in_ok-check_own-in-Numeral t c = λ sc b.
     let self = c.args.self.now in
     rw c.in-Numeral.is
     (numeral_reads self.text.now self.signature.now.symbols sc c.in-Numeral.number c.args.wanted _ (checked_none _ _ (sym c.in_ok-check_own-in-Numeral.ensures))
-        c.numeral_meaning.ensures.number c.numeral_meaning.ensures.term)
+    c.numeral_meaning.ensures.number c.numeral_meaning.ensures.term)
 
 pub meaning-returns-in_err-arguments-in-Apply : goal.meaning-returns-in_err-arguments-in-Apply
 meaning-returns-in_err-arguments-in-Apply t c = λ sc b.
@@ -98,4 +98,4 @@ meaning-returns-in_ok-term-in-Apply t c = λ sc b.
     let number = c.head_number-number.ensures ∙ ap (head_number c.in-Apply.head) c.as_slice-in-Apply.ensures in
     rw (c.in-Apply.is, ← c.as_slice.ensures)
     (apply_reads self.text.now self.signature.now.symbols sc c.in-Apply.head c.as_slice.result.now c.args.wanted c.in_ok-arguments-in-Apply.arguments _ (c.in_ok-arguments-in-Apply.ensures sc b) number
-        c.in_ok-term-in-Apply.ensures)
+    c.in_ok-term-in-Apply.ensures)

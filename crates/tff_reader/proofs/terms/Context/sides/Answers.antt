@@ -16,7 +16,7 @@ returns-in_err-second c = λ sc b.
     let e = c.in_err-second.field-0.0 in
     let r : c.from_residual-in_err-second.result ≡ Err e = search rules in
     rw r (sides_stop_second self.text.now self.signature.now.symbols sc c.args.left.now c.args.right.now c.right_side.result e (c.in_ok-first.ensures sc b).0
-        (c.right_side.ensures ∙ ap right_side (c.term_sort.ensures sc b)) (c.in_err-second.ensures sc b))
+    (c.right_side.ensures ∙ ap right_side (c.term_sort.ensures sc b)) (c.in_err-second.ensures sc b))
 
 pub returns : goal.returns
 returns c = λ sc b.
