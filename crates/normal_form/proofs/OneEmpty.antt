@@ -1,10 +1,7 @@
--- A list of clauses joined with one empty clause.
+-- An empty clause before each of a list of clauses.
 use Rattle.std.proofs.Common.{◌≡◌, List, [], ◌∷◌, ◌++◌, map, refl, ap}
-use Rattle.normal_form.specs.Cnf.{Literals, join}
+use Rattle.normal_form.specs.Cnf.{Literals}
 
-as_it_is : (cs : List Literals) → map (λ d. [] ++ d) cs ++ [] ≡ cs
-as_it_is [] = refl
-as_it_is (c ∷ cs) = ap (λ (ds : List Literals). c ∷ ds) (as_it_is cs)
-
-pub one_empty : (cs : List Literals) → join ([] ∷ []) cs ≡ cs
-one_empty cs = as_it_is cs
+pub as_they_are : (cs : List Literals) → cs ≡ map (λ d. [] ++ d) cs
+as_they_are [] = refl
+as_they_are (c ∷ cs) = ap (λ (ds : List Literals). c ∷ ds) (as_they_are cs)

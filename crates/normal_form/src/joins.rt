@@ -1,14 +1,14 @@
 //! Lists of clauses, joined pairwise.
 
-ghost use Rattle.std.specs.Prelude.{◌≡◌, ◌++◌, [], ◌∷◌, map, OnOk, IfOk, IsTrue, if◌then◌else◌};
+ghost use Rattle.std.specs.Prelude.{◌≡◌, ◌++◌, map, OnOk, IfOk, if◌then◌else◌};
 ghost use Rattle.normal_form.specs.Cnf.{join};
 
 use sqlite_items::Items;
 use std::alloc::{AllocError, Global};
 use term_base::Literal;
 
-/// Each clause of the first list with each of the second; the first runs slowest. Where the first list is one empty
-/// clause, the second is given as it is, without a copy.
+/// Each clause of the first list with each of the second; the first runs slowest. Where the first list has one clause,
+/// the literals of the second are moved, and not copied.
 pub(crate) fn join(
     alloc: Global,
     left: Vec<Items<Literal>>,
@@ -16,20 +16,34 @@ pub(crate) fn join(
 ) -> Result<Vec<Items<Literal>>, AllocError>
     ensures { IfOk result (λ all. all.items ≡ join left.items right.items) }
 {
-    if is_empty_clause_alone(left.as_slice()) {
-        return Ok(right);
+    let mut left = left;
+    if left.len() != 1 {
+        return join_each(alloc, left, right.as_slice());
     }
-    join_each(alloc, left, right.as_slice())
+    match left.pop() {
+        Some(clause) => join_before(alloc, clause, right),
+        None => Ok(left),
+    }
 }
 
-/// Whether there is one clause, and it is empty.
-fn is_empty_clause_alone(clauses: &[Items<Literal>]) -> bool
-    ensures { IsTrue result → clauses.now ≡ [] ∷ [] }
+/// A clause with each of a list behind it. The clause is copied.
+fn join_before(
+    alloc: Global,
+    clause: Items<Literal>,
+    right: Vec<Items<Literal>>,
+) -> Result<Vec<Items<Literal>>, AllocError>
+    ensures { IfOk result (λ all. all.items ≡ map (λ more. clause ++ more) right.items) }
 {
-    if let [clause] = clauses {
-        return clause.as_slice().is_empty();
+    if clause.is_empty() {
+        return Ok(right);
     }
-    false
+    let mut all = Vec::new(alloc);
+    for more in right {
+        let mut one = copy_literals(alloc, clause.as_slice())?;
+        one.append(more)?;
+        all.push(one)?;
+    }
+    Ok(all)
 }
 
 /// Each clause of the first list with copies of each of the second; the first runs slowest.
