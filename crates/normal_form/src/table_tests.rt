@@ -6,7 +6,7 @@ use formula_base::Formula;
 use sqlite_items::Items;
 use std::alloc::{AllocError, Global};
 use std::test::Fail;
-use term_base::{Class, Clause, Kind, Literal, Sort, Symbol, Term, Variable};
+use term_base::{Clause, Kind, Literal, Sort, Term, Variable};
 
 // A for an abstraction variable; N, X, D. for an ordinary one of sort Int, Individual, or a declared sort
 fn letter(v: Variable) -> &'static str {
@@ -370,31 +370,6 @@ fn gives_the_clauses_of_quantified_formulas(rt: HostRuntime) -> Result<(), Fail>
             "row {row}, {conjectured}, ordinary"
         );
     }
-    Ok(())
-}
-
-// from Individual and Int to Individual, without a name
-fn is_over_both(made: &Symbol) -> bool {
-    made.name.as_bytes().is_empty()
-        && made.args.as_slice() == [Sort::Individual, Sort::Int].as_slice()
-        && made.result == Sort::Individual
-        && made.class == Class::Foreground
-}
-
-#[test]
-fn makes_symbols_over_two_universal_variables(rt: HostRuntime) -> Result<(), Fail> {
-    let alloc = rt.alloc();
-    let problem = problem(alloc, under_two(alloc)?, None)?;
-    let Ok(prepared) = clauses(alloc, &problem, false) else {
-        assert!(rt; false);
-        return Ok(());
-    };
-    assert_eq!(rt; prepared.symbols.len(), 5);
-    let Some(made) = prepared.symbols.as_slice().last() else {
-        assert!(rt; false);
-        return Ok(());
-    };
-    assert!(rt; is_over_both(made));
     Ok(())
 }
 
