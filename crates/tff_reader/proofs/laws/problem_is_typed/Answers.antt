@@ -1,7 +1,0 @@
-use Rattle.std.proofs.Common.{sym, subst}
-use Rattle.formula_base.specs.Typing.{IsWellTyped}
-use Rattle.tff_reader.proofs.WellTyped.{problem_typed}
-use Rattle.tff_reader.proofs.laws.problem_is_typed.Goals as goal
-
-pub returns : goal.returns
-returns c = λ bytes p is. subst IsWellTyped (sym is.meant) (problem_typed bytes is.statements is.faultless)
