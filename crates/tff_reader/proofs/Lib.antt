@@ -1,0 +1,13 @@
+pub mod ArgumentLemmas
+pub mod BindingLemmas
+pub mod FormulaLemmas
+pub mod MeaningLemmas
+pub mod Numbered
+pub mod PlaceLemmas
+pub mod ReaderLemmas
+pub mod StopLemmas
+pub mod TermLemmas
+pub mod TreeInduction
+pub mod WayLemmas
+pub mod WellTyped
+pub mod FileLemmas

@@ -1,0 +1,11 @@
+pub mod Stops
+pub mod Scopes
+pub mod Bindings
+pub mod NumberTerms
+pub mod Typing
+pub mod Heads
+pub mod Meaning
+pub mod Arguments
+pub mod Contexts
+pub mod Answer
+pub mod Rows

@@ -1,0 +1,21 @@
+//! Typing and meaning of the input language: from the bytes of a text to its problem, or to the first fault.
+#![tactic(auto)]
+
+mod formulas;
+mod heads;
+mod laws;
+#[cfg(test)]
+mod meaning_tests;
+mod numbers;
+mod products;
+mod reader;
+#[cfg(test)]
+mod refusal_tests;
+mod refusals;
+mod scopes;
+mod stops;
+mod terms;
+
+pub use laws::{faults_ascend, one_answer};
+pub use reader::read;
+pub use refusals::{ReadError, Refused, RefusedName};
