@@ -28,11 +28,13 @@ pub record Declaration : Type 0 where
   pub word : Word
   pub type : DeclaredType
 
+-- what a statement declares
 abbrev pub declared_in : Content → Option Declaration
 declared_in (content.Declaration w t) = Some (record { word = w; type = t })
 declared_in (content.Premise g) = None
 declared_in (content.Conjecture g) = None
 
+-- the declarations of a file, in file order
 abbrev pub declarations : List Statement → List Declaration
 declarations = filter_map (λ s. declared_in s.content)
 
@@ -41,6 +43,7 @@ abbrev pub made_sort : DeclaredType → Name → Option Name
 made_sort type.OfTypes name = Some name
 made_sort (type.Function args s) name = None
 
+-- two sorts among `$i` and `$int` are one
 abbrev pub same_basic : BasicSort → BasicSort → Bool
 same_basic Individual Individual = true
 same_basic Individual Int = false
@@ -97,6 +100,7 @@ module _ (text : List ℕ) where
   redeclared w t None = []
   redeclared w t (Some first) = if same_type t first then [] else alone Redeclared (span_of w).start
 
+  -- those of a declaration: its word first, then the sorts of its type
   abbrev pub declaration_faults : List Declaration → List Name → Word → DeclaredType → Faults
   declaration_faults ds sorts w t = redeclared w t (declared_type ds (name_of text w)) ++ type_faults sorts t
 
@@ -104,6 +108,7 @@ module _ (text : List ℕ) where
   abbrev pub variable_faults : List Name → Variable → Faults
   variable_faults sorts v = option_map_or (sort_faults sorts) v.sort []
 
+  -- one layer of a formula
   abbrev pub binder_faults_step : List Name → Formula-F Faults → Faults
   binder_faults_step sorts (f.Constant b) = []
   binder_faults_step sorts (f.Atom t) = []
@@ -117,6 +122,7 @@ module _ (text : List ℕ) where
   abbrev pub binder_faults : List Name → Formula → Faults
   binder_faults sorts = fold-Formula Faults (binder_faults_step sorts)
 
+  -- those of a statement
   abbrev pub content_faults : List Declaration → List Name → Content → Faults
   content_faults ds sorts (content.Declaration w t) = declaration_faults ds sorts w t
   content_faults ds sorts (content.Premise g) = binder_faults sorts g

@@ -7,6 +7,7 @@ use Rattle.tff_signature.specs.declared.faults.Later.{Later}
 abbrev pub Faults : Type 0
 Faults = List Later
 
+-- a fault of this name at this byte
 abbrev pub fault : LaterName → ℕ → Later
 fault name at = record { name = name; at = at }
 

@@ -8,9 +8,11 @@ use Rattle.tff_grammar.specs.declared.trees.Word.{Word}
 use Rattle.tff_grammar.specs.declared.trees.Word.TheVariants as word
 use Rattle.tff_grammar.specs.Pieces.{bytes_at}
 
+-- a name is its bytes
 abbrev pub Name : Type 0
 Name = List ℕ
 
+-- two names are one
 abbrev pub same_name : Name → Name → Bool
 same_name = pointwise nat_eq
 
@@ -22,6 +24,7 @@ unquoted text = take (length text - 2) (drop 1 text)
 abbrev pub quoted_name : List ℕ → Name
 quoted_name text = if is_lower (unquoted text) then unquoted text else text
 
+-- the name of a word
 abbrev pub name_of : List ℕ → Word → Name
 name_of text (word.Lower s) = bytes_at text s
 name_of text (word.Quoted s) = quoted_name (bytes_at text s)

@@ -34,6 +34,7 @@ pub record Use : Type 0 where
   pub arity : ℕ
   pub whole : Bool
 
+-- a symbol of this type
 abbrev pub symbol : Name → List Sort → Sort → Symbol
 symbol name args result = record { name = name; args = args; result = result; class = class_of args result; classified = refl }
 
@@ -42,13 +43,16 @@ abbrev pub used_symbol : Use → Symbol
 used_symbol u = symbol u.name (replicate u.arity sorts.Individual) (if u.whole then sorts.Truth else sorts.Individual)
 
 module _ (text : List ℕ) where
+  -- a word at a place
   abbrev pub word_use : Word → ℕ → Bool → Use
   word_use w arity whole = record { name = name_of text w; arity = arity; whole = whole }
 
+  -- a head at a place: no use where it is an arithmetic word
   abbrev pub head_uses : Head → ℕ → Bool → List Use
   head_uses (head.Word w) arity whole = word_use w arity whole ∷ []
   head_uses (head.Operation o s) arity whole = []
 
+  -- one layer of a term
   abbrev pub term_uses_step : Term-F (Bool → List Use) → Bool → List Use
   term_uses_step (t.Variable s) whole = []
   term_uses_step (t.Numeral m) whole = []
@@ -58,6 +62,7 @@ module _ (text : List ℕ) where
   abbrev pub term_uses : Term → Bool → List Use
   term_uses = fold-Term (Bool → List Use) term_uses_step
 
+  -- one layer of a formula
   abbrev pub formula_uses_step : Formula-F (List Use) → List Use
   formula_uses_step (f.Constant b) = []
   formula_uses_step (f.Atom s) = term_uses s true
@@ -67,6 +72,7 @@ module _ (text : List ℕ) where
   formula_uses_step (f.Linked l g h) = g ++ h
   formula_uses_step (f.Joined j gs) = flat_map (λ g. g) gs
 
+  -- the words of a formula, in reading order
   abbrev pub formula_uses : Formula → List Use
   formula_uses = fold-Formula (List Use) formula_uses_step
 
