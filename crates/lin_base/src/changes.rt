@@ -58,7 +58,8 @@ fn add_terms(
     requires room { vec_len room + (length left.now + length right.now) ≤ vec_capacity room }
     requires left { IsTrue (is_ascending left.now) }
     requires right { IsTrue (is_ascending right.now) }
-    ensures { result ≡ formed_by (add_terms_steps left.now right.now) (spec.add_terms left.now right.now) }
+    ensures { result ≡ formed_by (add_terms_steps left.now right.now)
+        (spec.add_terms left.now right.now) }
 {
     let mut sum = room;
     let mut left = left;
@@ -95,13 +96,14 @@ fn sum_in(room: Vec<(u32, i128)>, a: &Lin, b: &Lin) -> Result<Lin, Wide>
     })
 }
 
-/// `a + b`. Wide with the first sum, by ascending unknown and the constants last, that leaves the range. It
-/// takes memory only where an unknown occurs.
+/// `a + b`. Wide with the first sum, by ascending unknown and the constants last, that leaves the
+/// range. It takes memory only where an unknown occurs.
 pub fn add(alloc: Global, a: &Lin, b: &Lin) -> Result<Lin, ArithmeticError>
     requires left { IsTrue (is_lin a.now) }
     requires right { IsTrue (is_lin b.now) }
     ensures sum { Forms result (add_steps a.now b.now) (spec.add a.now b.now) }
-    ensures memory { spec.has_unknown a.now ≡ false → spec.has_unknown b.now ≡ false → WantsNoMemory result }
+    ensures memory { spec.has_unknown a.now ≡ false → spec.has_unknown b.now ≡ false →
+        WantsNoMemory result }
     ensures well_formed { IfOk result (λ r. IsTrue (is_lin r)) }
 {
     let terms = a.coefs.as_slice().len() + b.coefs.as_slice().len();
@@ -139,8 +141,8 @@ fn multiple_in(room: Vec<(u32, i128)>, k: i128, a: &Lin) -> Result<Lin, Wide>
     })
 }
 
-/// `k * a`. Wide with the first product, by ascending unknown and the constant last, that leaves the range. It
-/// takes memory only where an unknown occurs.
+/// `k * a`. Wide with the first product, by ascending unknown and the constant last, that leaves
+/// the range. It takes memory only where an unknown occurs.
 pub fn scale(alloc: Global, k: i128, a: &Lin) -> Result<Lin, ArithmeticError>
     ensures product { Forms result (scale_steps k a.now) (spec.scale k a.now) }
     ensures memory { spec.has_unknown a.now ≡ false → WantsNoMemory result }
@@ -183,13 +185,16 @@ pub fn above(alloc: Global, a: &Lin) -> Result<Lin, ArithmeticError>
     add_number(alloc, &negative, 1)
 }
 
-/// `so_far + k * t`, the step by which a combination of sums is formed: first the products, then the sums.
+/// `so_far + k * t`, the step by which a combination of sums is formed: first the products, then
+/// the sums.
 #[tactic(auto, using(crate::proofs::Forming::forming))]
 pub fn add_scaled(alloc: Global, so_far: &Lin, k: i128, t: &Lin) -> Result<Lin, ArithmeticError>
     requires so_far { IsTrue (is_lin so_far.now) }
     requires term { IsTrue (is_lin t.now) }
-    ensures sum { Forms result (add_scaled_steps so_far.now k t.now) (add_scaled so_far.now k t.now) }
-    ensures memory { spec.has_unknown so_far.now ≡ false → spec.has_unknown t.now ≡ false → WantsNoMemory result }
+    ensures sum { Forms result (add_scaled_steps so_far.now k t.now)
+        (add_scaled so_far.now k t.now) }
+    ensures memory { spec.has_unknown so_far.now ≡ false → spec.has_unknown t.now ≡ false →
+        WantsNoMemory result }
     ensures well_formed { IfOk result (λ r. IsTrue (is_lin r)) }
 {
     add(alloc, so_far, &scale(alloc, k, t)?)

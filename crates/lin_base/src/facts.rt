@@ -23,7 +23,8 @@ pub enum Fact {
     NotDivides(i128, Lin),
 }
 
-/// Clauses of facts. An unknown below `params` is a parameter, each other one a variable of its clause.
+/// Clauses of facts. An unknown below `params` is a parameter, each other one a variable of its
+/// clause.
 #[derive(Debug, Drop)]
 pub struct Pool {
     /// How many parameters there are.

@@ -1,5 +1,5 @@
-//! Laws of sums, facts and numbers. Each is a function that does nothing, whose contract is the law; a
-//! valuation gives each unknown a whole number, and whole numbers have no limit.
+//! Laws of sums, facts and numbers. Each is a function that does nothing, whose contract is the
+//! law; a valuation gives each unknown a whole number, and whole numbers have no limit.
 
 ghost use Rattle.std.specs.Prelude.{◌≡◌, ◌≢◌, ℕ, ℤ, pos, not, ◌==◌, ◌&&◌, ◌+ℤ◌, ◌*ℤ◌, ◌≤ℤ◌, ◌<ℤ◌, neg_ℤ, Bool, false, IsTrue, List, ◌∷◌, ◌++◌, None};
 ghost use Rattle.std.specs.List.{list_all, AllByRecursion};
@@ -22,18 +22,24 @@ pub fn coefficients()
     ensures absent { (x : ℕ) (t : Lin) → occurs x t ≡ false → coef x t ≡ pos 0 }
 {}
 
-/// Which unknowns occur in what is formed of sums. In a well-formed sum the coefficient of what occurs isn't 0.
+/// Which unknowns occur in what is formed of sums. In a well-formed sum the coefficient of what
+/// occurs isn't 0.
 pub fn occurrences()
-    ensures sum { (x : ℕ) (t u : Lin) → occurs x t ≡ false → occurs x u ≡ false → occurs x (add t u) ≡ false }
-    ensures multiple { (x : ℕ) (k : ℤ) (t : Lin) → occurs x t ≡ false → occurs x (scale k t) ≡ false }
+    ensures sum { (x : ℕ) (t u : Lin) → occurs x t ≡ false → occurs x u ≡ false →
+        occurs x (add t u) ≡ false }
+    ensures multiple { (x : ℕ) (k : ℤ) (t : Lin) → occurs x t ≡ false →
+        occurs x (scale k t) ≡ false }
     ensures negated { (x : ℕ) (t : Lin) → IsTrue (is_lin t) → occurs x (negated t) ≡ occurs x t }
-    ensures number_added { (x : ℕ) (t : Lin) (c : ℤ) → IsTrue (is_lin t) → occurs x (add_number t c) ≡ occurs x t }
+    ensures number_added { (x : ℕ) (t : Lin) (c : ℤ) → IsTrue (is_lin t) →
+        occurs x (add_number t c) ≡ occurs x t }
     ensures above { (x : ℕ) (t : Lin) → IsTrue (is_lin t) → occurs x (above t) ≡ occurs x t }
     ensures rest { (x y : ℕ) (t : Lin) → occurs y (without x t) ≡ (not (y == x) && occurs y t) }
-    ensures coefficient { (x : ℕ) (t : Lin) → IsTrue (is_lin t) → IsTrue (occurs x t) → coef x t ≢ pos 0 }
+    ensures coefficient { (x : ℕ) (t : Lin) → IsTrue (is_lin t) → IsTrue (occurs x t) →
+        coef x t ≢ pos 0 }
 {}
 
-/// The sum without a term: the sum itself where the unknown doesn't occur, and of a multiple the multiple.
+/// The sum without a term: the sum itself where the unknown doesn't occur, and of a multiple the
+/// multiple.
 pub fn rests()
     ensures absent { (x : ℕ) (t : Lin) → occurs x t ≡ false → without x t ≡ t }
     ensures multiple { (x : ℕ) (k : ℤ) (t : Lin) → without x (scale k t) ≡ scale k (without x t) }
@@ -78,7 +84,8 @@ pub fn value_of_add_scaled()
 
 /// The value of a sum is that of its term at `x` and that of the sum without it.
 pub fn value_of_without()
-    ensures { (v : Valuation) (x : ℕ) (t : Lin) → value v t ≡ coef x t *ℤ v x +ℤ value v (without x t) }
+    ensures { (v : Valuation) (x : ℕ) (t : Lin) →
+        value v t ≡ coef x t *ℤ v x +ℤ value v (without x t) }
 {}
 
 /// The value of a sum where `x` has another value than in `v`.
@@ -88,41 +95,51 @@ pub fn value_where_assigned()
 {}
 
 /// What a fact speaks of after a replacement: a fact without `x` stays. Where `x` occurs with the
-/// coefficient `b` and `u` is the rest of the sum, the value is `b` times that of `t` and `a` times that of
-/// `u`; it is `a` times the old value where `t` has the value of `a * x`.
+/// coefficient `b` and `u` is the rest of the sum, the value is `b` times that of `t` and `a`
+/// times that of `u`; it is `a` times the old value where `t` has the value of `a * x`.
 pub fn value_of_replace()
-    ensures absent { (x : ℕ) (a : ℤ) (t : Lin) (f : Fact) → occurs x (sum_of f) ≡ false → replace x a t f ≡ f }
-    ensures value { (v : Valuation) (x : ℕ) (a : ℤ) (t : Lin) (f : Fact) → IsTrue (occurs x (sum_of f)) →
-        value v (sum_of (replace x a t f)) ≡ coef x (sum_of f) *ℤ value v t +ℤ a *ℤ value v (without x (sum_of f)) }
-    ensures multiple { (v : Valuation) (x : ℕ) (a : ℤ) (t : Lin) (f : Fact) → IsTrue (occurs x (sum_of f)) →
+    ensures absent { (x : ℕ) (a : ℤ) (t : Lin) (f : Fact) → occurs x (sum_of f) ≡ false →
+        replace x a t f ≡ f }
+    ensures value { (v : Valuation) (x : ℕ) (a : ℤ) (t : Lin) (f : Fact) →
+        IsTrue (occurs x (sum_of f)) →
+        value v (sum_of (replace x a t f)) ≡
+        coef x (sum_of f) *ℤ value v t +ℤ a *ℤ value v (without x (sum_of f)) }
+    ensures multiple { (v : Valuation) (x : ℕ) (a : ℤ) (t : Lin) (f : Fact) →
+        IsTrue (occurs x (sum_of f)) →
         value v t ≡ a *ℤ v x → value v (sum_of (replace x a t f)) ≡ a *ℤ value v (sum_of f) }
 {}
 
-/// The sum that a combination forms has the sum of the multiples of the values as its value. Where each
-/// multiple is at most 0 it is at most 0, and it is well formed where each of the sums is.
+/// The sum that a combination forms has the sum of the multiples of the values as its value.
+/// Where each multiple is at most 0 it is at most 0, and it is well formed where each of the sums
+/// is.
 pub fn combination()
-    ensures value { (v : Valuation) (parts : List (Lin × ℤ)) → value v (combined parts) ≡ total v parts }
-    ensures at_most_zero { (v : Valuation) (parts : List (Lin × ℤ)) → AllByRecursion (IsSmall v) parts →
+    ensures value { (v : Valuation) (parts : List (Lin × ℤ)) →
+        value v (combined parts) ≡ total v parts }
+    ensures at_most_zero { (v : Valuation) (parts : List (Lin × ℤ)) →
+        AllByRecursion (IsSmall v) parts →
         value v (combined parts) ≤ℤ pos 0 }
     ensures well_formed { (parts : List (Lin × ℤ)) → IsTrue (list_all (λ e. is_lin e.0) parts) →
         IsTrue (is_lin (combined parts)) }
 {}
 
-/// The first step of a combination that leaves the range: the error of a step is the error of the whole, and
-/// where a step stays in the range the rest decides, which goes on from the sum that the step formed.
+/// The first step of a combination that leaves the range: the error of a step is the error of the
+/// whole, and where a step stays in the range the rest decides, which goes on from the sum that
+/// the step formed.
 pub fn combination_steps()
     ensures wide { (e : ArithmeticError) (so_far t : Lin) (k : ℤ) (rest : List (Lin × ℤ)) →
         IsErrorAt e (first_wide (add_scaled_steps so_far k t)) →
         IsErrorAt e (first_wide (combined_onto_steps so_far ((t, k) ∷ rest))) }
     ensures narrow { (so_far t : Lin) (k : ℤ) (rest : List (Lin × ℤ)) →
         first_wide (add_scaled_steps so_far k t) ≡ None →
-        first_wide (combined_onto_steps so_far ((t, k) ∷ rest)) ≡ first_wide (combined_onto_steps (add_scaled so_far k t) rest) }
+        first_wide (combined_onto_steps so_far ((t, k) ∷ rest)) ≡
+        first_wide (combined_onto_steps (add_scaled so_far k t) rest) }
 {}
 
-/// Of steps one after the other the first that leaves the range is that of the earlier ones, where there is
-/// one, and else that of the later ones.
+/// Of steps one after the other the first that leaves the range is that of the earlier ones,
+/// where there is one, and else that of the later ones.
 pub fn steps_in_order()
-    ensures { (ss ts : List Wide) → first_wide (ss ++ ts) ≡ option_or (first_wide ss) (first_wide ts) }
+    ensures { (ss ts : List Wide) →
+        first_wide (ss ++ ts) ≡ option_or (first_wide ss) (first_wide ts) }
 {}
 
 /// Where `t` has the value of `a * x`, putting it in place of `a * x` changes no truth.
@@ -133,7 +150,8 @@ pub fn truth_of_replace()
 
 /// A fact has one truth at valuations that agree on its unknowns.
 pub fn truth_of_same()
-    ensures { (test : ℕ → Bool) (v w : Valuation) → ((x : ℕ) → IsTrue (test x) → v x ≡ w x) → (f : Fact) →
+    ensures { (test : ℕ → Bool) (v w : Valuation) → ((x : ℕ) → IsTrue (test x) → v x ≡ w x) →
+        (f : Fact) →
         IsTrue (each_unknown test (sum_of f)) → holds v f ≡ holds w f }
 {}
 
@@ -147,7 +165,8 @@ pub fn well_formed_sums()
     ensures sum { (t u : Lin) → IsTrue (is_lin t) → IsTrue (is_lin u) → IsTrue (is_lin (add t u)) }
     ensures multiple { (k : ℤ) (t : Lin) → IsTrue (is_lin t) → IsTrue (is_lin (scale k t)) }
     ensures rest { (x : ℕ) (t : Lin) → IsTrue (is_lin t) → IsTrue (is_lin (without x t)) }
-    ensures number_added { (t : Lin) (c : ℤ) → IsTrue (is_lin t) → IsTrue (is_lin (add_number t c)) }
+    ensures number_added { (t : Lin) (c : ℤ) → IsTrue (is_lin t) →
+        IsTrue (is_lin (add_number t c)) }
     ensures above { (t : Lin) → IsTrue (is_lin t) → IsTrue (is_lin (above t)) }
 {}
 

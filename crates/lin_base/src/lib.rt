@@ -1,4 +1,5 @@
-//! Exact arithmetic on linear sums over the integers: sums, facts about them and pools of clauses of facts.
+//! Exact arithmetic on linear sums over the integers: sums, facts about them and pools of clauses
+//! of facts.
 #![tactic(auto)]
 
 mod changes;

@@ -71,8 +71,8 @@ pub fn gcd(a: i128, b: i128) -> u128
     common_divisor(a.unsigned_abs(), b.unsigned_abs())
 }
 
-/// The least common multiple. Wide, with `a` divided by the common divisor and `b`, exactly where it
-/// leaves the range.
+/// The least common multiple. Wide, with `a` divided by the common divisor and `b`, exactly where
+/// it leaves the range.
 pub fn lcm(a: i128, b: i128) -> Result<i128, Wide>
     requires left { pos 1 ≤ℤ a }
     requires right { pos 1 ≤ℤ b }

@@ -235,6 +235,16 @@ fn sums_of_sums(rt: HostRuntime) -> Result<(), Fail> {
     Ok(())
 }
 
+// -u + 1
+#[test]
+fn a_bound(rt: HostRuntime) -> Result<(), Fail> {
+    let alloc = rt.alloc();
+    let u = sum(alloc, &[(1, 4), (3, 1)], -2)?;
+    assert!(rt; is_lin(&u));
+    assert!(rt; same_lin(&above(alloc, &u)?, &sum(alloc, &[(1, -4), (3, -1)], 3)?));
+    Ok(())
+}
+
 #[test]
 fn multiples_of_a_sum(rt: HostRuntime) -> Result<(), Fail> {
     let alloc = rt.alloc();

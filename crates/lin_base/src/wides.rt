@@ -1,4 +1,5 @@
-//! The first sum or product that leaves the range of `i128`, and the errors of calls that form sums.
+//! The first sum or product that leaves the range of `i128`, and the errors of calls that form
+//! sums.
 
 ghost use Rattle.std.specs.Prelude.{◌≡◌};
 ghost use Rattle.lin_base.specs.declared.wides.ArithmeticError.TheVariants.{Memory, Wide as TooWide};
