@@ -8,6 +8,7 @@ pub mod Keys
 pub mod Forming
 pub mod LinearForms
 pub mod Meaning
+pub mod NoUnknowns
 pub mod Noting
 pub mod Places
 pub mod PoolMeaning

@@ -1,5 +1,5 @@
 -- Linear: a background term as a sum over unknowns, and the steps by which the sum is formed.
-use Rattle.std.specs.Prelude.{ℕ, ℤ, pos, List, [], ◌∷◌, ◌++◌}
+use Rattle.std.specs.Prelude.{ℕ, ℤ, pos, Bool, true, false, ◌||◌, List, [], ◌∷◌, ◌++◌}
 use Rattle.term_base.specs.declared.terms.Term.{Term}
 use Rattle.term_base.specs.declared.terms.Term.TheOpen.{Term-F, Var, Num, True, Sum, Scale, App}
 use Rattle.term_base.specs.declared.terms.Term.TheFolds.{fold-Term}
@@ -42,6 +42,19 @@ linear_step n (App f args) = at_once (one_unknown (n.of_symbol f))
 -- Linear of a term
 abbrev pub linear : Numbering → Term → Formed
 linear n = fold-Term Formed (linear_step n)
+
+-- a variable or a symbol in one of the parts
+abbrev pub unknown_step : Term-F Bool → Bool
+unknown_step (Var v) = true
+unknown_step (Num k) = false
+unknown_step True = false
+unknown_step (Sum a b) = a || b
+unknown_step (Scale k a) = a
+unknown_step (App f args) = true
+
+-- some variable or symbol occurs in the term
+abbrev pub has_unknown : Term → Bool
+has_unknown = fold-Term Bool unknown_step
 
 -- the right sum is multiplied by -1 and added
 abbrev pub subtracted : Lin → Lin → Lin

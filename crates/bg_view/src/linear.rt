@@ -1,8 +1,9 @@
 //! Background terms as linear sums.
 
-ghost use Rattle.std.specs.Prelude.{◌≡◌, IfOk, IsTrue};
+ghost use Rattle.std.specs.Prelude.{◌≡◌, false, IfOk, IsTrue};
 ghost use Rattle.lin_base.specs.Fact.{is_lin};
-ghost use Rattle.lin_base.specs.Steps.{Forms};
+ghost use Rattle.lin_base.specs.Sum.{has_unknown};
+ghost use Rattle.lin_base.specs.Steps.{Forms, WantsNoMemory};
 ghost use Rattle.bg_view.specs.Numbers.{IsNumbering, numbering_of};
 ghost use Rattle.bg_view.specs.Linear as spec;
 
@@ -21,12 +22,15 @@ fn one_unknown(alloc: Global, x: u32) -> Result<Lin, AllocError>
     Ok(Lin { coefs, constant: 0 })
 }
 
-/// Linear of a background term: the parts of a sum are formed from the left and then added, and a sum is
-/// formed before it is multiplied.
+/// Linear of a background term: the parts of a sum are formed from the left and then added, and a
+/// sum is formed before it is multiplied. It takes memory only where a variable or a symbol
+/// occurs.
 #[tactic(auto, using(crate::proofs::Forming::forming))]
 pub(crate) fn linear(alloc: Global, unknowns: &Unknowns, t: &Term) -> Result<Lin, ArithmeticError>
     requires { IsNumbering unknowns.now }
-    ensures sum { Forms result (spec.linear (numbering_of unknowns.now) t.now).steps (spec.linear (numbering_of unknowns.now) t.now).sum }
+    ensures sum { Forms result (spec.linear (numbering_of unknowns.now) t.now).steps
+        (spec.linear (numbering_of unknowns.now) t.now).sum }
+    ensures memory { spec.has_unknown t.now ≡ false → WantsNoMemory result }
     ensures well_formed { IfOk result (λ r. IsTrue (is_lin r)) }
 {
     match t {
@@ -52,12 +56,14 @@ fn subtract(alloc: Global, t: &Lin, u: &Lin) -> Result<Lin, ArithmeticError>
     requires left { IsTrue (is_lin t.now) }
     requires right { IsTrue (is_lin u.now) }
     ensures sum { Forms result (spec.subtract_steps t.now u.now) (spec.subtracted t.now u.now) }
+    ensures memory { has_unknown t.now ≡ false → has_unknown u.now ≡ false → WantsNoMemory result }
     ensures well_formed { IfOk result (λ r. IsTrue (is_lin r)) }
 {
     add(alloc, t, &negate(alloc, u)?)
 }
 
-/// Linear of a literal with these sides: left, then right, then their difference.
+/// Linear of a literal with these sides: left, then right, then their difference. It takes memory
+/// only where a variable or a symbol occurs.
 #[tactic(auto, using(crate::proofs::Forming::forming))]
 pub(crate) fn difference(
     alloc: Global,
@@ -68,6 +74,8 @@ pub(crate) fn difference(
     requires { IsNumbering unknowns.now }
     ensures sum { Forms result (spec.difference (numbering_of unknowns.now) s.now t.now).steps
         (spec.difference (numbering_of unknowns.now) s.now t.now).sum }
+    ensures memory { spec.has_unknown s.now ≡ false → spec.has_unknown t.now ≡ false →
+        WantsNoMemory result }
     ensures well_formed { IfOk result (λ r. IsTrue (is_lin r)) }
 {
     let left = linear(alloc, unknowns, s)?;

@@ -1,8 +1,9 @@
 //! Background literals as facts.
 
-ghost use Rattle.std.specs.Prelude.{◌≡◌, [], ◌∷◌, IfOk, IsTrue};
+ghost use Rattle.std.specs.Prelude.{◌≡◌, false, pos, [], ◌∷◌, IfOk, IsTrue};
 ghost use Rattle.lin_base.specs.Fact.{is_lin};
-ghost use Rattle.lin_base.specs.Steps.{Forms};
+ghost use Rattle.lin_base.specs.Sum.{has_unknown, add_number as spec_add_number, above as spec_above};
+ghost use Rattle.lin_base.specs.Steps.{Forms, WantsNoMemory};
 ghost use Rattle.bg_view.specs.Numbers.{IsNumbering, numbering_of};
 ghost use Rattle.bg_view.specs.Linear.{difference};
 ghost use Rattle.bg_view.specs.View as spec;
@@ -30,14 +31,26 @@ fn two_facts(alloc: Global, fact: Fact, other: Fact) -> Result<Items<Fact>, Allo
     Ok(facts)
 }
 
+/// `t + 1` and `-t + 1`. It takes memory only where an unknown occurs.
+#[tactic(auto, using(crate::proofs::Forming::forming))]
+fn apart(alloc: Global, t: &Lin) -> Result<(Lin, Lin), ArithmeticError>
+    requires { IsTrue (is_lin t.now) }
+    ensures sums { Forms result (spec.differ_steps t.now)
+        (spec_add_number t.now (pos 1), spec_above t.now) }
+    ensures memory { has_unknown t.now ≡ false → WantsNoMemory result }
+{
+    let below = add_number(alloc, t, 1)?;
+    let above = above(alloc, t)?;
+    Ok((below, above))
+}
+
 /// `t + 1 <= 0` and `-t + 1 <= 0`
 #[tactic(auto, using(crate::proofs::Forming::forming))]
 fn differ_facts(alloc: Global, t: &Lin) -> Result<Items<Fact>, ArithmeticError>
     requires { IsTrue (is_lin t.now) }
     ensures { Forms result (spec.differ_steps t.now) (spec.differ_facts t.now) }
 {
-    let below = add_number(alloc, t, 1)?;
-    let above = above(alloc, t)?;
+    let (below, above) = apart(alloc, t)?;
     Ok(two_facts(alloc, Fact::AtMostZero(below), Fact::AtMostZero(above))?)
 }
 

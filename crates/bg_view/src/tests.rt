@@ -119,6 +119,20 @@ fn a_variable_comes_after_the_parameters(rt: HostRuntime) {
     assert!(rt; is_at_most(clause, &[(0, -1), (1, 1)], 0));
 }
 
+// s0 + 1 <= 2^127 - 1
+#[test]
+fn below_the_greatest_number(rt: HostRuntime) -> Result<(), Fail> {
+    let next = Term::sum(rt.alloc(), s(rt.alloc(), 0), Term::Num(1))?;
+    let Ok(viewed) = view_of(rt.alloc(), Literal::AtMost(next, Term::Num(i128::MAX))) else {
+        panic!(rt; "no view");
+    };
+    let [clause] = viewed.pool.clauses.as_slice() else {
+        panic!(rt; "no unit clause");
+    };
+    assert!(rt; viewed.pool.params == 1 && is_at_most(clause, &[(0, 1)], 1 - i128::MAX));
+    Ok(())
+}
+
 #[test]
 fn a_false_literal(rt: HostRuntime) {
     let Ok(viewed) = view_of(rt.alloc(), Literal::Differ(Term::True, Term::True)) else {
@@ -138,12 +152,75 @@ fn unit_facts(viewed: &Viewed, params: u32) -> Option<&[Fact]> {
     }
 }
 
-// 2u0 - 1 = 0
-fn is_twice_one(viewed: &Viewed) -> bool {
-    match unit_facts(viewed, 1) {
-        Some([Fact::Zero(t)]) => is_sum(t, &[(0, 2)], -1),
+// the one clause is `t = 0`
+fn is_zero(viewed: &Viewed, params: u32, terms: &[(u32, i128)], constant: i128) -> bool {
+    match unit_facts(viewed, params) {
+        Some([Fact::Zero(t)]) => is_sum(t, terms, constant),
         _ => false,
     }
+}
+
+#[test]
+fn a_true_literal(rt: HostRuntime) {
+    let Ok(viewed) = view_of(rt.alloc(), Literal::Equal(Term::True, Term::True)) else {
+        panic!(rt; "no view");
+    };
+    assert!(rt; viewed.symbols.is_empty() && is_zero(&viewed, 0, &[], 0));
+}
+
+// the negation of a unit clause
+fn negated(alloc: Global, literal: Literal) -> Result<Viewed, ViewError> {
+    let target = unit(alloc, literal)?;
+    entail_view_of(alloc, &[], &target)
+}
+
+#[test]
+fn a_true_target(rt: HostRuntime) {
+    let Ok(viewed) = negated(rt.alloc(), Literal::Equal(Term::True, Term::True)) else {
+        panic!(rt; "no view");
+    };
+    let [clause] = viewed.pool.clauses.as_slice() else {
+        panic!(rt; "no unit clause");
+    };
+    assert!(rt; viewed.pool.params == 0 && is_at_most(clause, &[], 1));
+}
+
+#[test]
+fn a_false_target(rt: HostRuntime) {
+    let Ok(viewed) = negated(rt.alloc(), Literal::Differ(Term::True, Term::True)) else {
+        panic!(rt; "no view");
+    };
+    assert!(rt; viewed.symbols.is_empty() && is_zero(&viewed, 0, &[], 0));
+}
+
+fn view_of_empty_clause(alloc: Global) -> Result<Viewed, ViewError> {
+    let mut clauses = Items::new(alloc);
+    clauses.push(Clause {
+        literals: Items::new(alloc),
+    })?;
+    view_all(alloc, clauses.as_slice())
+}
+
+#[test]
+fn an_empty_clause(rt: HostRuntime) {
+    let Ok(viewed) = view_of_empty_clause(rt.alloc()) else {
+        panic!(rt; "no view");
+    };
+    let Some(facts) = unit_facts(&viewed, 0) else {
+        panic!(rt; "no clause");
+    };
+    assert!(rt; viewed.symbols.is_empty() && facts.is_empty());
+}
+
+#[test]
+fn an_empty_target(rt: HostRuntime) {
+    let target = Clause {
+        literals: Items::new(rt.alloc()),
+    };
+    let Ok(viewed) = entail_view_of(rt.alloc(), &[], &target) else {
+        panic!(rt; "no view");
+    };
+    assert!(rt; viewed.pool.params == 0 && viewed.pool.clauses.is_empty());
 }
 
 // (2 * s0) = 1
@@ -153,7 +230,7 @@ fn an_equation(rt: HostRuntime) -> Result<(), Fail> {
     let Ok(viewed) = view_of(rt.alloc(), Literal::Equal(twice, Term::Num(1))) else {
         panic!(rt; "no view");
     };
-    assert!(rt; viewed.symbols.as_slice() == [0].as_slice() && is_twice_one(&viewed));
+    assert!(rt; viewed.symbols.as_slice() == [0].as_slice() && is_zero(&viewed, 1, &[(0, 2)], -1));
     Ok(())
 }
 
@@ -275,6 +352,69 @@ fn rising_values(rt: HostRuntime) -> Result<(), Fail> {
     Ok(())
 }
 
+// A1 <= s | A1 != t
+fn above_abstracted(alloc: Global, s: Term, t: Term) -> Result<Clause, AllocError> {
+    let mut literals = Items::new(alloc);
+    literals.push(Literal::AtMost(a(1), s))?;
+    literals.push(Literal::Differ(a(1), t))?;
+    Ok(Clause { literals })
+}
+
+// 1 <= s1 and s1 + 1 <= s2 in abstracted form, and s2 <= 1
+fn rising_abstracted(alloc: Global) -> Result<Items<Clause>, AllocError> {
+    let mut clauses = Items::new(alloc);
+    clauses.push(above_abstracted(alloc, s(alloc, 1), Term::Num(1))?)?;
+    let next = Term::sum(alloc, s(alloc, 1), Term::Num(1))?;
+    clauses.push(above_abstracted(alloc, s(alloc, 2), next)?)?;
+    push_at_most(&mut clauses, s(alloc, 2), Term::Num(1), alloc)?;
+    Ok(clauses)
+}
+
+// the clause is `t <= 0` or `u <= 0` or `v <= 0`, with these terms and constants
+fn is_one_of(clause: &Items<Fact>, sums: [(&[(u32, i128)], i128); 3]) -> bool {
+    match clause.as_slice() {
+        [
+            Fact::AtMostZero(t),
+            Fact::AtMostZero(u),
+            Fact::AtMostZero(v),
+        ] => {
+            is_sum(t, sums[0].0, sums[0].1)
+                && is_sum(u, sums[1].0, sums[1].1)
+                && is_sum(v, sums[2].0, sums[2].1)
+        }
+        _ => false,
+    }
+}
+
+// -u0 + u2 <= 0 or u2 <= 0 or -u2 + 2 <= 0; -u1 + u2 <= 0 or -u0 + u2 <= 0 or u0 - u2 + 2 <= 0; u1 - 1 <= 0
+fn is_rising_abstracted(viewed: &Viewed) -> bool {
+    let [first, second, third] = viewed.pool.clauses.as_slice() else {
+        return false;
+    };
+    is_one_of(
+        first,
+        [(&[(0, -1), (2, 1)], 0), (&[(2, 1)], 0), (&[(2, -1)], 2)],
+    ) && is_one_of(
+        second,
+        [
+            (&[(1, -1), (2, 1)], 0),
+            (&[(0, -1), (2, 1)], 0),
+            (&[(0, 1), (2, -1)], 2),
+        ],
+    ) && is_at_most(third, &[(1, 1)], -1)
+}
+
+#[test]
+fn rising_values_in_abstracted_form(rt: HostRuntime) -> Result<(), Fail> {
+    let clauses = rising_abstracted(rt.alloc())?;
+    let Ok(viewed) = view_all(rt.alloc(), clauses.as_slice()) else {
+        panic!(rt; "no view");
+    };
+    assert!(rt; viewed.symbols.as_slice() == [1, 2].as_slice() && viewed.pool.params == 2);
+    assert!(rt; is_rising_abstracted(&viewed));
+    Ok(())
+}
+
 // (2 * s0) <= 1 and 1 <= s0
 fn half_and_one(alloc: Global) -> Result<Items<Clause>, AllocError> {
     let mut clauses = Items::new(alloc);
@@ -363,20 +503,19 @@ fn an_entailed_clause(rt: HostRuntime) -> Result<(), Fail> {
     Ok(())
 }
 
-fn is_wide_at(viewed: &Result<Viewed, ViewError>, clause: u32, wide: Wide) -> bool {
+// the refusal
+fn told_at(viewed: Result<Viewed, ViewError>) -> Option<WideAt> {
     match viewed {
-        Err(ViewError::Wide(at)) => at.clause == clause && at.wide == wide,
-        _ => false,
+        Err(ViewError::Wide(at)) => Some(at),
+        Ok(_) | Err(ViewError::Memory) => None,
     }
 }
 
-fn is_past(viewed: &Result<Viewed, ViewError>, clause: u32) -> bool {
-    let past = Wide {
-        op: Op::Add,
-        left: i128::MAX,
-        right: 1,
-    };
-    is_wide_at(viewed, clause, past)
+fn wide_at(clause: u32, op: Op, left: i128, right: i128) -> Option<WideAt> {
+    Some(WideAt {
+        clause,
+        wide: Wide { op, left, right },
+    })
 }
 
 // (2^127 - 1 + 1) <= -1
@@ -397,27 +536,122 @@ fn target_past_the_range(alloc: Global) -> Result<Viewed, ViewError> {
     entail_view_of(alloc, clauses.as_slice(), &target)
 }
 
-#[test]
-fn a_target_past_the_range(rt: HostRuntime) {
-    assert!(rt; is_past(&target_past_the_range(rt.alloc()), 1));
+// s0 <= 0, and then the literal past the range
+fn second_past(alloc: Global) -> Result<Viewed, ViewError> {
+    let mut clauses = Items::new(alloc);
+    push_at_most(&mut clauses, s(alloc, 0), Term::Num(0), alloc)?;
+    clauses.push(unit(alloc, past(alloc)?)?)?;
+    view_all(alloc, clauses.as_slice())
+}
+
+// (2 * 2^126) <= 0
+fn multiple_past(alloc: Global) -> Result<Viewed, ViewError> {
+    let multiple = Term::scale(alloc, 2, Term::Num(1 << 126))?;
+    view_of(alloc, Literal::AtMost(multiple, Term::Num(0)))
+}
+
+// 0 <= (2^127 - 1 + 1)
+fn right_past(alloc: Global) -> Result<Viewed, ViewError> {
+    let right = Term::sum(alloc, Term::Num(i128::MAX), Term::Num(1))?;
+    view_of(alloc, Literal::AtMost(Term::Num(0), right))
+}
+
+// s0 != -(2^127 - 1): 1 is added for the first fact
+fn first_fact_past(alloc: Global) -> Result<Viewed, ViewError> {
+    view_of(alloc, Literal::Differ(s(alloc, 0), Term::Num(-i128::MAX)))
+}
+
+// the target s0 <= 2^127 - 1: 1 is added to -(s0 - (2^127 - 1))
+fn negation_past(alloc: Global) -> Result<Viewed, ViewError> {
+    negated(alloc, Literal::AtMost(s(alloc, 0), Term::Num(i128::MAX)))
 }
 
 #[test]
-fn sums_past_the_range(rt: HostRuntime) {
-    assert!(rt; is_past(&past_the_range(rt.alloc()), 0));
-    // Linear of s0 != 2^127 - 1 stays in the range, and its second fact doesn't
-    let apart = Literal::Differ(s(rt.alloc(), 0), Term::Num(i128::MAX));
-    assert!(rt; is_past(&view_of(rt.alloc(), apart), 0));
+fn the_first_operation_past_the_range(rt: HostRuntime) {
+    let alloc = rt.alloc();
+    for (told, want) in [
+        (
+            told_at(second_past(alloc)),
+            wide_at(1, Op::Add, i128::MAX, 1),
+        ),
+        (
+            told_at(multiple_past(alloc)),
+            wide_at(0, Op::Mul, 2, 1 << 126),
+        ),
+        (
+            told_at(right_past(alloc)),
+            wide_at(0, Op::Add, i128::MAX, 1),
+        ),
+        (
+            told_at(first_fact_past(alloc)),
+            wide_at(0, Op::Add, i128::MAX, 1),
+        ),
+        (
+            told_at(negation_past(alloc)),
+            wide_at(0, Op::Add, i128::MAX, 1),
+        ),
+    ] {
+        assert!(rt; told == want);
+    }
+}
+
+#[test]
+fn a_target_past_the_range(rt: HostRuntime) {
+    let told = told_at(target_past_the_range(rt.alloc()));
+    assert!(rt; told == wide_at(1, Op::Add, i128::MAX, 1));
+}
+
+// Linear of s0 != 2^127 - 1 stays in the range, and its second fact doesn't
+fn second_fact_past(alloc: Global) -> Result<Viewed, ViewError> {
+    view_of(alloc, Literal::Differ(s(alloc, 0), Term::Num(i128::MAX)))
 }
 
 // 0 <= -2^127: the right side is multiplied by -1 before it is added
+fn product_past(alloc: Global) -> Result<Viewed, ViewError> {
+    view_of(alloc, Literal::AtMost(Term::Num(0), Term::Num(i128::MIN)))
+}
+
+// (2^127 - 1 + 1) = 0, or the disequation
+fn equation_past(alloc: Global, holds: bool) -> Result<Viewed, ViewError> {
+    let left = Term::sum(alloc, Term::Num(i128::MAX), Term::Num(1))?;
+    if holds {
+        view_of(alloc, Literal::Equal(left, Term::Num(0)))
+    } else {
+        view_of(alloc, Literal::Differ(left, Term::Num(0)))
+    }
+}
+
+// a clause past the range without s0 <= 0
+fn clause_before_target_past(alloc: Global) -> Result<Viewed, ViewError> {
+    let clause = unit(alloc, past(alloc)?)?;
+    without(alloc, clause, &low(alloc)?)
+}
+
 #[test]
-fn a_product_past_the_range(rt: HostRuntime) {
-    let low = Literal::AtMost(Term::Num(0), Term::Num(i128::MIN));
-    let product = Wide {
-        op: Op::Mul,
-        left: -1,
-        right: i128::MIN,
-    };
-    assert!(rt; is_wide_at(&view_of(rt.alloc(), low), 0, product));
+fn an_equation_past_the_range(rt: HostRuntime) {
+    let want = wide_at(0, Op::Add, i128::MAX, 1);
+    assert!(rt; told_at(equation_past(rt.alloc(), true)) == want);
+    assert!(rt; told_at(equation_past(rt.alloc(), false)) == want);
+    assert!(rt; told_at(clause_before_target_past(rt.alloc())) == want);
+}
+
+#[test]
+fn a_clause_past_the_range(rt: HostRuntime) {
+    let alloc = rt.alloc();
+    for (told, want) in [
+        (
+            told_at(past_the_range(alloc)),
+            wide_at(0, Op::Add, i128::MAX, 1),
+        ),
+        (
+            told_at(second_fact_past(alloc)),
+            wide_at(0, Op::Add, i128::MAX, 1),
+        ),
+        (
+            told_at(product_past(alloc)),
+            wide_at(0, Op::Mul, -1, i128::MIN),
+        ),
+    ] {
+        assert!(rt; told == want);
+    }
 }

@@ -12,7 +12,8 @@ use sqlite_items::Items;
 use std::alloc::{AllocError, Global};
 use term_base::{Clause, Literal, Term, Variable};
 
-/// The unknowns of a clause: a parameter by the rank of its symbol, a variable by its place after `first`.
+/// The unknowns of a clause: a parameter by the rank of its symbol, a variable by its place after
+/// `first`.
 #[derive(Drop)]
 pub(crate) struct Unknowns<'a> {
     /// The symbols of the parameters, ascending.
@@ -61,7 +62,8 @@ impl Unknowns<'_> {
     }
 }
 
-/// The unknowns with these symbols and variables, or Memory where there are more than a `u32` counts.
+/// The unknowns with these symbols and variables, or Memory where there are more than a `u32`
+/// counts.
 pub(crate) fn numbered<'a>(
     symbols: &'a [u32],
     first: u32,
@@ -72,7 +74,8 @@ pub(crate) fn numbered<'a>(
     ensures is { IfOk result (λ u. IsNumbering u) }
     ensures first { IfOk result (λ u. u.first ≡ first) }
     ensures variables { IfOk result (λ u. u.variables ≡ variables) }
-    ensures numbering { IfOk result (λ u. numbering_of u ≡ spec.numbering symbols.now first variables.keys) }
+    ensures numbering { IfOk result
+        (λ u. numbering_of u ≡ spec.numbering symbols.now first variables.keys) }
     ensures memory { IfErr result (λ e. e ≡ Memory) }
     ensures past { IfErr result (λ e. 2 ^ 32 ≤ first + length variables.keys) }
 {
@@ -120,7 +123,8 @@ fn append_literal_symbols(l: &Literal, symbols: &mut Vec<u32>) -> Result<(), All
 
 /// Appends the symbols of a clause.
 pub(crate) fn append_clause_symbols(c: &Clause, symbols: &mut Vec<u32>) -> Result<(), AllocError>
-    ensures { OnOk result (symbols.new.items ≡ symbols.old.items ++ spec.symbols_in_literals c.now.literals) }
+    ensures { OnOk result (symbols.new.items ≡ symbols.old.items
+        ++ spec.symbols_in_literals c.now.literals) }
 {
     for literal in c.literals.as_slice() {
         append_literal_symbols(literal, symbols)?;
@@ -133,7 +137,8 @@ pub(crate) fn append_clauses_symbols(
     clauses: &[Clause],
     symbols: &mut Vec<u32>,
 ) -> Result<(), AllocError>
-    ensures { OnOk result (symbols.new.items ≡ symbols.old.items ++ spec.symbols_in_clauses clauses.now) }
+    ensures { OnOk result (symbols.new.items ≡ symbols.old.items
+        ++ spec.symbols_in_clauses clauses.now) }
 {
     for clause in clauses {
         append_clause_symbols(clause, symbols)?;
@@ -162,7 +167,8 @@ fn note(v: Variable, variables: &mut IndexSet<Variable>) -> Result<(), AllocErro
 
 #[tactic(auto, using(crate::proofs::Noting::noting))]
 fn note_variables(t: &Term, variables: &mut IndexSet<Variable>) -> Result<(), AllocError>
-    ensures { OnOk result (variables.new.keys ≡ spec.all_noted variables.old.keys (spec.variables_in t.now)) }
+    ensures { OnOk result (variables.new.keys ≡
+        spec.all_noted variables.old.keys (spec.variables_in t.now)) }
 {
     match t {
         Term::Num(_) | Term::True | Term::App(_, _) => Ok(()),
@@ -177,7 +183,8 @@ fn note_variables(t: &Term, variables: &mut IndexSet<Variable>) -> Result<(), Al
 
 #[tactic(auto, using(crate::proofs::Noting::noting))]
 fn note_literal_variables(l: &Literal, variables: &mut IndexSet<Variable>) -> Result<(), AllocError>
-    ensures { OnOk result (variables.new.keys ≡ spec.all_noted variables.old.keys (spec.variables_in_literal l.now)) }
+    ensures { OnOk result (variables.new.keys ≡
+        spec.all_noted variables.old.keys (spec.variables_in_literal l.now)) }
 {
     match l {
         Literal::Equal(s, t) | Literal::Differ(s, t) | Literal::AtMost(s, t) => {

@@ -10,7 +10,8 @@ use std::alloc::{AllocError, AllocFailed};
 /// The pool of background clauses.
 #[derive(Debug, Drop)]
 pub struct Viewed {
-    /// The symbol numbers of the parameters, ascending. The parameter `i` stands for the symbol `symbols[i]`.
+    /// The symbol numbers of the parameters, ascending. The parameter `i` stands for the symbol
+    /// `symbols[i]`.
     pub symbols: Items<u32>,
     /// The pool.
     pub pool: Pool,

@@ -69,7 +69,8 @@ fn clause_facts(
 ) -> Result<Items<Fact>, ArithmeticError>
     requires ascending { IsStrictlyIncreasing symbols.now }
     requires after { length symbols.now ≤ params }
-    ensures { Forms result (spec.clause_steps symbols.now params clause.now) (spec.clause_facts symbols.now params clause.now) }
+    ensures { Forms result (spec.clause_steps symbols.now params clause.now)
+        (spec.clause_facts symbols.now params clause.now) }
 {
     let unknowns = numbered(symbols, params, variables_of(alloc, clause)?)?;
     literals_facts(alloc, &unknowns, clause.literals.as_slice())
@@ -98,7 +99,8 @@ fn clauses_facts(
     requires ascending { IsStrictlyIncreasing symbols.now }
     requires after { length symbols.now ≤ params }
     requires count { length clauses.now < 2 ^ 32 }
-    ensures { spec.Forms result (spec.clauses_steps symbols.now params clauses.now) (spec.clauses_facts symbols.now params clauses.now) }
+    ensures { spec.Forms result (spec.clauses_steps symbols.now params clauses.now)
+        (spec.clauses_facts symbols.now params clauses.now) }
 {
     let mut pool = Items::new(alloc);
     let mut number = 0;
@@ -135,7 +137,8 @@ fn parameters(alloc: Global, clauses: &[Clause]) -> Result<Items<u32>, AllocErro
 
 fn view_of(alloc: Global, symbols: Items<u32>, clauses: &[Clause]) -> Result<Viewed, ViewError>
     requires ascending { IsStrictlyIncreasing symbols }
-    ensures { spec.Forms result (spec.clauses_steps symbols (length symbols) clauses.now) (spec.view_of symbols clauses.now) }
+    ensures { spec.Forms result (spec.clauses_steps symbols (length symbols) clauses.now)
+        (spec.view_of symbols clauses.now) }
 {
     count(clauses.len())?;
     let params = count(symbols.len())?;
@@ -146,11 +149,12 @@ fn view_of(alloc: Global, symbols: Items<u32>, clauses: &[Clause]) -> Result<Vie
     })
 }
 
-/// The pool of background clauses. Its parameters are numbered by ascending symbol number, and the
-/// variables of each clause after them by first place. A literal `s <= t` gives the fact `s - t <= 0`,
-/// `s = t` gives `s - t = 0`, and `s != t` gives two facts, `s - t + 1 <= 0` and `-(s - t) + 1 <= 0`;
-/// `true = true` gives `0 = 0`, and `true != true` gives `1 <= 0`. Each fact of the pool is well formed. The
-/// answer is Wide with the first sum or product that leaves the range.
+/// The pool of background clauses. Its parameters are numbered by ascending symbol number, and
+/// the variables of each clause after them by first place. A literal `s <= t` gives the fact
+/// `s - t <= 0`, `s = t` gives `s - t = 0`, and `s != t` gives two facts, `s - t + 1 <= 0` and
+/// `-(s - t) + 1 <= 0`; `true = true` gives `0 = 0`, and `true != true` gives `1 <= 0`. Each fact
+/// of the pool is well formed. The answer is Wide with the first sum or product that leaves the
+/// range.
 pub fn view(alloc: Global, signature: &[Symbol], clauses: &[Clause]) -> Result<Viewed, ViewError>
     requires { IsTrue (are_background signature.now clauses.now) }
     ensures pool { spec.Forms result (spec.view_steps clauses.now) (spec.view clauses.now) }
@@ -185,7 +189,8 @@ fn target_facts(
     number: u32,
 ) -> Result<Items<Items<Fact>>, ViewError>
     requires { IsNumbering unknowns.now }
-    ensures { spec.FormsAt number result (spec.negated_steps_of (numbering_of unknowns.now) target.now.literals)
+    ensures { spec.FormsAt number result
+        (spec.negated_steps_of (numbering_of unknowns.now) target.now.literals)
         (spec.negated_facts (numbering_of unknowns.now) target.now.literals) }
 {
     match negated_facts(alloc, unknowns, target.literals.as_slice()) {
@@ -205,8 +210,10 @@ fn entail_facts(
     requires numbering { IsNumbering unknowns.now }
     requires after { length unknowns.now.symbols.now ≤ params }
     ensures { spec.Forms result
-        (spec.clauses_steps unknowns.now.symbols.now params clauses.now ++ spec.negated_steps_of (numbering_of unknowns.now) target.now.literals ∷ [])
-        (spec.clauses_facts unknowns.now.symbols.now params clauses.now ++ spec.negated_facts (numbering_of unknowns.now) target.now.literals) }
+        (spec.clauses_steps unknowns.now.symbols.now params clauses.now
+        ++ spec.negated_steps_of (numbering_of unknowns.now) target.now.literals ∷ [])
+        (spec.clauses_facts unknowns.now.symbols.now params clauses.now
+        ++ spec.negated_facts (numbering_of unknowns.now) target.now.literals) }
 {
     let number = count(clauses.len())?;
     let mut pool = clauses_facts(alloc, unknowns.symbols, params, clauses)?;
@@ -223,7 +230,8 @@ fn entail_pool(
     target: &Clause,
 ) -> Result<Pool, ViewError>
     requires ascending { IsStrictlyIncreasing symbols.now }
-    ensures { spec.Forms result (spec.entail_steps_of symbols.now clauses.now target.now) (spec.entail_pool_of symbols.now clauses.now target.now) }
+    ensures { spec.Forms result (spec.entail_steps_of symbols.now clauses.now target.now)
+        (spec.entail_pool_of symbols.now clauses.now target.now) }
 {
     let variables = variables_of(alloc, target)?;
     let added = variables.len();
@@ -243,18 +251,20 @@ fn entail_view_of(
     target: &Clause,
 ) -> Result<Viewed, ViewError>
     requires ascending { IsStrictlyIncreasing symbols }
-    ensures { spec.Forms result (spec.entail_steps_of symbols clauses.now target.now) (spec.entail_view_of symbols clauses.now target.now) }
+    ensures { spec.Forms result (spec.entail_steps_of symbols clauses.now target.now)
+        (spec.entail_view_of symbols clauses.now target.now) }
 {
     let pool = entail_pool(alloc, symbols.as_slice(), clauses, target)?;
     Ok(Viewed { symbols, pool })
 }
 
-/// The pool of background clauses and of a negated target, which counts as the last clause: it is true where
-/// the clauses are true and the target is false. Each literal of the target adds a unit clause: `s <= t` adds
-/// `-(s - t) + 1 <= 0`, `s = t` adds the clause of `s - t + 1 <= 0` and `-(s - t) + 1 <= 0`, `s != t` adds
-/// `s - t = 0`, `true = true` adds `1 <= 0`, and `true != true` adds `0 = 0`. The target's variables are
-/// parameters after those of the symbols. Each fact of the pool is well formed. The answer is Wide with the
-/// first sum or product that leaves the range.
+/// The pool of background clauses and of a negated target, which counts as the last clause: it is
+/// true where the clauses are true and the target is false. Each literal of the target adds a
+/// unit clause: `s <= t` adds `-(s - t) + 1 <= 0`, `s = t` adds the clause of `s - t + 1 <= 0`
+/// and `-(s - t) + 1 <= 0`, `s != t` adds `s - t = 0`, `true = true` adds `1 <= 0`, and
+/// `true != true` adds `0 = 0`. The target's variables are parameters after those of the symbols.
+/// Each fact of the pool is well formed. The answer is Wide with the first sum or product that
+/// leaves the range.
 pub fn entail_view(
     alloc: Global,
     signature: &[Symbol],
@@ -263,8 +273,11 @@ pub fn entail_view(
 ) -> Result<Viewed, ViewError>
     requires clauses { IsTrue (are_background signature.now clauses.now) }
     requires target { IsTrue (is_background_clause signature.now target.now) }
-    ensures pool { spec.Forms result (spec.entail_view_steps clauses.now target.now) (spec.entail_view clauses.now target.now) }
-    ensures truth { IfOk result (λ r. (p : Symbols) (w : Variables) (q : Valuation) → GivesTarget r.symbols target.now p w q →
+    ensures pool { spec.Forms result (spec.entail_view_steps clauses.now target.now)
+        (spec.entail_view clauses.now target.now) }
+    ensures truth { IfOk result
+        (λ r. (p : Symbols) (w : Variables) (q : Valuation) →
+        GivesTarget r.symbols target.now p w q →
         HoldsAt r.pool q ↔ (AreTrueAt p clauses.now × (clause_holds p w target.now ≡ false))) }
     ensures well_formed { IfOk result (λ r. IsTrue (is_pool r.pool)) }
     ensures rises { IfOk result (λ r. IsStrictlyIncreasing r.symbols) }

@@ -1,10 +1,12 @@
-use Rattle.std.proofs.Common.{subst, arith}
+use Rattle.std.proofs.Common.{◌≡◌, ◌∙◌, ap, false, subst, arith}
 use Rattle.std.proofs.lemmas.Grind.{common_steps}
 use Rattle.lin_base.specs.declared.sums.Lin.{Lin}
 use Rattle.lin_base.specs.Steps.{Forms}
 use Rattle.bg_view.specs.Numbers.{numbering_of}
 use Rattle.bg_view.specs.Linear.{linear, subtract_steps, subtracted}
 use Rattle.bg_view.proofs.LinearForms.{first_fails, second_fails, last_answers}
+use Rattle.lin_base.specs.Sum.{has_unknown as sum_has_unknown}
+use Rattle.bg_view.proofs.NoUnknowns.{has_unknown-linear}
 use Rattle.bg_view.proofs.linear.difference.Goals as goal
 
 pub returns-in_err-left-clause-sum : goal.returns-in_err-left-clause-sum
@@ -24,3 +26,10 @@ returns-clause-sum c =
     let Q : Lin → Type 0 = λ u. Forms c.subtract.result (subtract_steps (linear n c.args.s.now).sum u) (subtracted (linear n c.args.s.now).sum u) in
     last_answers _ (linear n c.args.s.now).steps (linear n c.args.t.now).steps _ _ c.in_ok-left.ensures.sum.0.0 c.in_ok-right.ensures.sum.0.0
     (subst Q c.in_ok-right.ensures.sum.0.1 (subst P c.in_ok-left.ensures.sum.0.1 c.subtract.ensures.sum))
+
+pub returns-clause-memory : goal.returns-clause-memory
+returns-clause-memory c = λ h g.
+    let n = numbering_of c.args.unknowns.now in
+    let left : sum_has_unknown c.in_ok-left.left ≡ false = ap sum_has_unknown c.in_ok-left.ensures.sum.0.1 ∙ has_unknown-linear n c.args.s.now h in
+    let right : sum_has_unknown c.in_ok-right.right ≡ false = ap sum_has_unknown c.in_ok-right.ensures.sum.0.1 ∙ has_unknown-linear n c.args.t.now g in
+    c.subtract.ensures.memory left right
