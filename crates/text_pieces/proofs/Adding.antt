@@ -8,7 +8,8 @@ use Rattle.std.specs.Fmt.{decimal as fmt_decimal, signed_decimal as fmt_signed}
 use Rattle.std.proofs.lemmas.Fmt.{decimal_by_steps_wide}
 use Rattle.text_pieces.proofs.Digits.{decimal_digit, decimal_step}
 use Rattle.text_pieces.specs.Decimals.{decimal, signed_decimal}
-use Rattle.text_pieces.specs.Languages.{Cat, Blank, Image, Times}
+use Rattle.text_pieces.specs.Languages.{Cat, Behind, Blank, Image, Times}
+use Rattle.text_pieces.specs.Separated.{Tail, Separated}
 use Rattle.text_pieces.specs.Numbers.{Number, Any, Signed, Signed128, Counted}
 use Rattle.text_pieces.specs.Printing.{Adds}
 
@@ -103,3 +104,33 @@ adds-item L xs i a x y z l e r s =
 pub adds-all : {A : Type 0} (L : A → List ℕ → Type 0) (xs : List A) (i : ℕ) (x y : List ℕ) → i ≡ length xs → Adds (Times L i) (take i xs) x y → Adds (Times L (length xs)) xs x y
 adds-all L xs i x y e r =
     subst (λ t. Adds (Times L (length xs)) t x y) (take_whole (length xs) xs (omega arith)) (subst (λ n. Adds (Times L n) (take n xs) x y) e r)
+
+-- ---- lists with a byte between
+pub adds-behind : {A : Type 0} (byte : ℕ) (L : A → List ℕ → Type 0) (a : A) (x y z : List ℕ) → y ≡ x ++ byte ∷ [] → Adds L a y z → Adds (Behind byte L) a x z
+adds-behind byte L a x y z e r = record {
+  text = byte ∷ r.text;
+  spelled = record { behind = r.text; spelled = r.spelled; joined = refl };
+  is = r.is ∙ ap (λ t. t ++ r.text) e ∙ append_assoc x (byte ∷ []) r.text;
+}
+
+tail_spelled : {A : Type 0} (L : A → List ℕ → Type 0) (between end : ℕ) (xs : List A) (t : List ℕ) → Times (Behind between L) (length xs) xs t → Tail L between end xs (t ++ end ∷ [])
+tail_spelled L between end [] t s = ap (λ z. z ++ end ∷ []) s
+tail_spelled L between end (x ∷ xs) t s =
+    let b = s.first_spelled in
+    record {
+      first = b.behind;
+      more = s.second ++ end ∷ [];
+      first_is = b.spelled;
+      more_is = tail_spelled L between end xs s.second s.second_spelled;
+      joined = ap (λ z. z ++ end ∷ []) s.joined ∙ append_assoc s.first s.second (end ∷ []) ∙ ap (λ z. z ++ (s.second ++ end ∷ [])) b.joined;
+    }
+
+pub adds-separated : {A : Type 0} (L : A → List ℕ → Type 0) (between end : ℕ) (a : A) (more : List A) (w x y z : List ℕ)
+    → Adds L a w x → Adds (Times (Behind between L) (length more)) more x y → z ≡ y ++ end ∷ [] → Adds (Separated L between end) (a ∷ more) w z
+adds-separated {A} L between end a more w x y z f m e =
+    let tail : Adds (Tail L between end) more x z = record {
+      text = m.text ++ end ∷ [];
+      spelled = tail_spelled L between end more m.text m.spelled;
+      is = e ∙ ap (λ t. t ++ end ∷ []) m.is ∙ append_assoc x m.text (end ∷ []);
+    } in
+    adds-image (λ (p : A × List A). p.0 ∷ p.1) (Cat L (λ first. Tail L between end)) (a, more) w z (adds-cat L (λ first. Tail L between end) a more w x z f tail)

@@ -3,7 +3,7 @@ use Rattle.std.proofs.Common.{◌≡◌, ℕ, zero, suc, ◌+◌, ◌<◌, ◌�
 use Rattle.std.specs.Prelude.{slice_get}
 use Rattle.std.proofs.lemmas.Bool.{ltb-true}
 use Rattle.std.proofs.lemmas.Bool.Decides.{nat_tests}
-use Rattle.text_pieces.specs.Languages.{NoDigit, GoesOn, Reads, StopsAt, Fails, Exactly, OneOf}
+use Rattle.text_pieces.specs.Languages.{NoDigit, GoesOn, Reads, StopsAt, Fails, Exactly, OneOf, NoneBefore}
 use Rattle.text_pieces.proofs.Joining.{Fronts, within, beyond, fronts, head_same, drop_front, not_longer}
 
 -- ---- one word
@@ -53,7 +53,7 @@ pub record Tried (words : List (List ℕ)) (i : ℕ) (text : List ℕ) (left : �
   pub left_is : length rest ≡ left
   pub goes_on : GoesOn (OneOf words) front
   pub stops : (k : ℕ) (w : List ℕ) → k < i → slice_get words k ≡ Some w → StopsAt (Exactly w) front rest
-  pub none : (k : ℕ) (w : List ℕ) → k < i → slice_get words k ≡ Some w → (rest' : List ℕ) → Reads (Exactly w) text tt rest' → ⊥
+  pub none : NoneBefore words i text
 
 pub tried_none : (words : List (List ℕ)) (text : List ℕ) → 0 < length words → Tried words 0 text (length text)
 tried_none [] text h = absurd (omega arith)

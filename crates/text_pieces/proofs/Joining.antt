@@ -2,26 +2,7 @@
 use Rattle.std.proofs.Common.{◌≡◌, ℕ, List, [], ◌∷◌, ◌++◌, length, refl, sym, ap, subst, ◌∙◌, append_assoc, append-nil, false}
 use Rattle.text_pieces.specs.Decimals.{is_digit}
 use Rattle.text_pieces.specs.Languages.{NoDigit, GoesOn, Reads, StopsAt, Fails, Cat, Behind, Blank}
-
--- ---- properties of languages
--- each text of the language begins with no digit
-abbrev pub StartsClear : {A : Type 0} → (A → List ℕ → Type 0) → Type 0
-StartsClear {A} L = (a : A) (t : List ℕ) → L a t → NoDigit t
-
--- some value has a spelling
-pub record HasOne {A : Type 0} (L : A → List ℕ → Type 0) : Type 0 where
-  pub value : A
-  pub text : List ℕ
-  pub spelled : L value text
-
--- two spellings in front of the same bytes, which no digit follows, are one
-pub record SameFront {A : Type 0} (a b : A) (t u x y : List ℕ) : Type 0 where
-  pub value : a ≡ b
-  pub text : t ≡ u
-  pub rest : x ≡ y
-
-abbrev pub OneFront : {A : Type 0} → (A → List ℕ → Type 0) → Type 0
-OneFront {A} L = (a b : A) (t u x y : List ℕ) → L a t → L b u → t ++ x ≡ u ++ y → NoDigit x → NoDigit y → SameFront a b t u x y
+use Rattle.text_pieces.specs.Unambiguous.{HasOne, OneFront, StartsClear}
 
 -- ---- lists
 pub no_digit-append : (v x : List ℕ) → NoDigit v → NoDigit x → NoDigit (v ++ x)

@@ -4,7 +4,7 @@ pub mod Reaching
 pub mod Windows
 pub mod Lifting
 pub mod Negatives
-pub mod Lists
+pub mod Repeated
 pub mod Counts
 pub mod Choices
 pub mod Chains
@@ -13,3 +13,4 @@ pub mod WordFronts
 pub mod OneText
 pub mod Keeping
 pub mod Having
+pub mod Tails

@@ -5,7 +5,8 @@ use Rattle.text_pieces.specs.Languages.{NoDigit, Reads, StopsAt, Fails, Cat, Beh
 use Rattle.text_pieces.specs.declared.bad_texts.Unread.{Unread}
 use Rattle.text_pieces.specs.declared.bad_texts.Unread.TheVariants.{Memory, Bad}
 use Rattle.text_pieces.specs.Failing.{Unreadable}
-use Rattle.text_pieces.proofs.Joining.{StartsClear, HasOne, OneFront, cat_reads, one_front-cat, cat_fails_first, cat_fails_second, clear-behind, has_one-behind, one_front-behind, behind_reads, behind_fails, behind_missing, no_digit-append}
+use Rattle.text_pieces.proofs.Joining.{cat_reads, one_front-cat, cat_fails_first, cat_fails_second, clear-behind, has_one-behind, one_front-behind, behind_reads, behind_fails, behind_missing, no_digit-append}
+use Rattle.text_pieces.specs.Unambiguous.{HasOne, OneFront, Unambiguous, StartsClear}
 
 -- the last part of a whole is read in the middle of the bytes, and f makes the whole's value
 pub record Lift {A B : Type 0} (L : A → List ℕ → Type 0) (bytes : List ℕ) (M : B → List ℕ → Type 0) (middle : List ℕ) (f : B → A) : Type 0 where
@@ -53,20 +54,15 @@ lift-image f L bytes = record {
     stop front [] k = tt
     stop front (b ∷ bs) k = λ g. k (record { value = g.spelled.from; text = g.text; tail = g.tail; spelled = g.spelled.spelled; begins = g.begins })
 
--- ---- languages whose texts are read in one way alone
-pub record Regular {A : Type 0} (L : A → List ℕ → Type 0) : Type 0 where
-  pub one : OneFront L
-  pub clear : StartsClear L
-  pub some : HasOne L
+-- ---- languages whose texts are told apart
+pub unambiguous-behind : {A : Type 0} (byte : ℕ) (L : A → List ℕ → Type 0) → is_digit byte ≡ false → OneFront L → HasOne L → Unambiguous (Behind byte L)
+unambiguous-behind byte L h one some = record { one = one_front-behind byte L one; clear = clear-behind byte L h; some = has_one-behind byte L some }
 
-pub regular-behind : {A : Type 0} (byte : ℕ) (L : A → List ℕ → Type 0) → is_digit byte ≡ false → OneFront L → HasOne L → Regular (Behind byte L)
-regular-behind byte L h one some = record { one = one_front-behind byte L one; clear = clear-behind byte L h; some = has_one-behind byte L some }
+pub unambiguous-blank : {A : Type 0} (L : A → List ℕ → Type 0) → OneFront L → HasOne L → Unambiguous (Blank L)
+unambiguous-blank L = unambiguous-behind 32 L refl
 
-pub regular-blank : {A : Type 0} (L : A → List ℕ → Type 0) → OneFront L → HasOne L → Regular (Blank L)
-regular-blank L = regular-behind 32 L refl
-
-pub regular-cat : {A B : Type 0} (L : A → List ℕ → Type 0) (M : A → B → List ℕ → Type 0) → Regular L → ((a : A) → Regular (M a)) → Regular (Cat L M)
-regular-cat L M l m = record {
+pub unambiguous-cat : {A B : Type 0} (L : A → List ℕ → Type 0) (M : A → B → List ℕ → Type 0) → Unambiguous L → ((a : A) → Unambiguous (M a)) → Unambiguous (Cat L M)
+unambiguous-cat L M l m = record {
   one = one_front-cat L M l.one (λ a. (m a).one) (λ a. (m a).clear);
   clear = λ p t s. subst NoDigit (sym s.joined) (no_digit-append s.first s.second (l.clear p.0 s.first s.first_spelled) ((m p.0).clear p.1 s.second s.second_spelled));
   some =
@@ -83,15 +79,15 @@ one_front-image f L one a b t u x y s r h d e =
 pub has_one-image : {A B : Type 0} (f : A → B) (L : A → List ℕ → Type 0) → HasOne L → HasOne (Image f L)
 has_one-image f L h = record { value = f h.value; text = h.text; spelled = record { from = h.value; is = refl; spelled = h.spelled } }
 
-pub regular-image : {A B : Type 0} (f : A → B) (L : A → List ℕ → Type 0) → Regular L → Regular (Image f L)
-regular-image f L l = record { one = one_front-image f L l.one; clear = λ b t s. l.clear s.from t s.spelled; some = has_one-image f L l.some }
+pub unambiguous-image : {A B : Type 0} (f : A → B) (L : A → List ℕ → Type 0) → Unambiguous L → Unambiguous (Image f L)
+unambiguous-image f L l = record { one = one_front-image f L l.one; clear = λ b t s. l.clear s.from t s.spelled; some = has_one-image f L l.some }
 
 -- the first part fails
-pub first_fails : {A B : Type 0} (L : A → List ℕ → Type 0) (M : A → B → List ℕ → Type 0) (bytes : List ℕ) (left : ℕ) → ((a : A) → Regular (M a)) → Fails L bytes left → Fails (Cat L M) bytes left
+pub first_fails : {A B : Type 0} (L : A → List ℕ → Type 0) (M : A → B → List ℕ → Type 0) (bytes : List ℕ) (left : ℕ) → ((a : A) → Unambiguous (M a)) → Fails L bytes left → Fails (Cat L M) bytes left
 first_fails L M bytes left m f = cat_fails_first L M bytes left (λ a t s. (m a).some) (λ a. (m a).clear) f
 
 -- the first part was read
-pub first_reads : {A B : Type 0} (L : A → List ℕ → Type 0) (M : A → B → List ℕ → Type 0) (bytes middle : List ℕ) (a : A) → OneFront L → ((a : A) → Regular (M a)) → Reads L bytes a middle
+pub first_reads : {A B : Type 0} (L : A → List ℕ → Type 0) (M : A → B → List ℕ → Type 0) (bytes middle : List ℕ) (a : A) → OneFront L → ((a : A) → Unambiguous (M a)) → Reads L bytes a middle
     → Lift (Cat L M) bytes (M a) middle (λ b. (a, b))
 first_reads L M bytes middle a one m r = lift-cat L M bytes middle a one (λ a. (m a).clear) r
 

@@ -4,8 +4,9 @@ use Rattle.text_pieces.specs.Decimals.{decimal}
 use Rattle.text_pieces.specs.Languages.{Reads, StopsAt, Fails}
 use Rattle.text_pieces.specs.Numbers.{Number, Within, Signed, Signed128}
 use Rattle.text_pieces.proofs.Digits.{digit_below}
-use Rattle.text_pieces.proofs.Joining.{OneFront, HasOne, head_same, tail_same}
+use Rattle.text_pieces.proofs.Joining.{head_same, tail_same}
 use Rattle.text_pieces.proofs.Reaching.{decimal_head, one_decimal}
+use Rattle.text_pieces.specs.Unambiguous.{HasOne, OneFront}
 
 -- no digits begin with a minus
 no_minus : (n : ℕ) (x more : List ℕ) → decimal n ++ x ≡ 45 ∷ more → ⊥

@@ -3,7 +3,7 @@ use Rattle.std.proofs.Common.{◌≡◌, ℕ, zero, suc, ℤ, List, [], ◌∷�
 use Rattle.text_pieces.specs.Decimals.{decimal, signed_decimal}
 use Rattle.text_pieces.specs.Languages.{Cat, Behind, Blank, Times}
 use Rattle.text_pieces.specs.Numbers.{Number, Any, Signed, Counted}
-use Rattle.text_pieces.proofs.Lists.{length-times}
+use Rattle.text_pieces.proofs.Repeated.{length-times}
 
 -- each text of the language for a value is this one
 abbrev pub Texts : {A : Type 0} → (A → List ℕ → Type 0) → (A → List ℕ) → Type 0

@@ -9,7 +9,8 @@ use Rattle.text_pieces.specs.Decimals.{is_digit, decimal}
 use Rattle.text_pieces.specs.Languages.{NoDigit, GoesOn, Reads, StopsAt, Fails}
 use Rattle.text_pieces.specs.Numbers.{Number, Within, Reaches}
 use Rattle.text_pieces.proofs.Digits.{AllDigits, all_digits, reading, reading-append, decimal_value, front_value, begins, first_digit, decimal_digit, decimal_step}
-use Rattle.text_pieces.proofs.Joining.{OneFront, HasOne, Fronts, within, beyond, fronts, head_same, tail_same, drop_front}
+use Rattle.text_pieces.proofs.Joining.{Fronts, within, beyond, fronts, head_same, tail_same, drop_front}
+use Rattle.text_pieces.specs.Unambiguous.{HasOne, OneFront}
 
 -- a decimal text has a first digit
 pub record Head (n : ℕ) : Type 0 where

@@ -1,5 +1,5 @@
 -- Languages: which texts spell which values; what it is to read one in front of the bytes, and where no spelling goes on.
-use Rattle.std.specs.Prelude.{◌≡◌, ℕ, zero, suc, false, List, [], ◌∷◌, ◌++◌, length, Some, slice_get}
+use Rattle.std.specs.Prelude.{◌≡◌, ℕ, zero, suc, ◌<◌, false, List, [], ◌∷◌, ◌++◌, length, Some, slice_get}
 use Rattle.text_pieces.specs.Decimals.{is_digit}
 
 -- the first byte, where there is one, is no digit
@@ -73,6 +73,10 @@ Exactly word value text = text ≡ word
 -- one of these words, by its place
 abbrev pub OneOf : List (List ℕ) → ℕ → List ℕ → Type 0
 OneOf words place text = slice_get words place ≡ Some text
+
+-- no word before this place is read in front of the bytes
+abbrev pub NoneBefore : List (List ℕ) → ℕ → List ℕ → Type 0
+NoneBefore words place bytes = (k : ℕ) (word : List ℕ) → k < place → slice_get words k ≡ Some word → (rest : List ℕ) → Reads (Exactly word) bytes tt rest → ⊥
 
 -- so many texts of the language, one behind the other
 abbrev pub Times : {A : Type 0} → (A → List ℕ → Type 0) → ℕ → List A → List ℕ → Type 0

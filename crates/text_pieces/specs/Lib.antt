@@ -4,3 +4,5 @@ pub mod Numbers
 pub mod Failing
 pub mod Counting
 pub mod Printing
+pub mod Unambiguous
+pub mod Separated

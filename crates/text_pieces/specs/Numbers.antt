@@ -42,10 +42,11 @@ pub record Signed (In : ℤ → Type 0) (z : ℤ) (text : List ℕ) : Type 0 whe
 abbrev pub Counted : {A : Type 0} → (A → List ℕ → Type 0) → List A → List ℕ → Type 0
 Counted {A} L = Image (λ (p : ℕ × List A). p.1) (Cat (Blank (Number Any)) (Times L))
 
--- a count of any size was read, as it is or as the largest `u128` where it is larger
+-- a count as it is, or the largest `u128` in place of a larger one
 abbrev pub IsCount : ℕ → ℕ → Type 0
 IsCount count n = count ≡ min n (2 ^ 128 - 1)
 
+-- a count of any size was read, the count as it is or as the largest `u128` where it is larger
 pub record ReadsCount (bytes : List ℕ) (count : ℕ) (rest : List ℕ) : Type 0 where
   pub number : ℕ
   pub is : IsCount count number

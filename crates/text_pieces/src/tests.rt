@@ -1,6 +1,11 @@
+ghost use Rattle.std.specs.Prelude.{true};
+ghost use Rattle.text_pieces.specs.Languages.{Blank};
+ghost use Rattle.text_pieces.specs.Numbers.{Number, Word32, Signed, Signed128};
+
 use crate::{
-    Bad, after_byte, behind, count, exactly, number, one_of, push, push_blank_decimal,
-    push_blank_signed, push_decimal, push_signed_decimal, signed, word32,
+    Bad, Printer, Reader, Unread, after_byte, behind, blank_signed, count, counted, exactly,
+    number, one_of, push, push_blank_decimal, push_blank_signed, push_counted, push_decimal,
+    push_separated, push_signed_decimal, separated, signed, word32,
 };
 use std::alloc::{AllocError, Global};
 
@@ -100,5 +105,109 @@ fn prints_numbers(rt: HostRuntime) -> Result<(), AllocError> {
     let wanted =
         b"A340282366920938463463374607431768211455-170141183460469231731687303715884105728 0 -7";
     assert!(rt; text.as_slice() == wanted.as_slice());
+    Ok(())
+}
+
+/// Reads numbers.
+struct ReadNumber;
+
+impl Reader for ReadNumber {
+    type Value = u32;
+
+    ghost spells = { Number Word32 };
+
+    fn read(_alloc: Global, text: &[u8]) -> Result<(u32, &[u8]), Unread> {
+        Ok(word32(text)?)
+    }
+}
+
+/// Reads numbers with a sign, each behind a blank.
+struct ReadSigned;
+
+impl Reader for ReadSigned {
+    type Value = i128;
+
+    ghost spells = { Blank (Signed (Signed128 0)) };
+
+    fn read(_alloc: Global, text: &[u8]) -> Result<(i128, &[u8]), Unread> {
+        Ok(blank_signed(text, 0)?)
+    }
+}
+
+/// How many numbers stand with a comma between each two and a blank behind the last, the last one, and how many bytes follow.
+fn listed(alloc: Global, text: &[u8]) -> Result<(usize, Option<u32>, usize), Unread> {
+    let (mut numbers, rest) = separated::<ReadNumber>(alloc, text, b',', b' ')?;
+    let count = numbers.len();
+    Ok((count, numbers.pop(), rest.len()))
+}
+
+#[test]
+fn reads_lists_with_commas(rt: HostRuntime) {
+    let alloc = rt.alloc();
+    assert_eq!(rt; listed(alloc, b"0,12,7 cert"), Ok((3, Some(7), 4)));
+    assert_eq!(rt; listed(alloc, b"5 "), Ok((1, Some(5), 0)));
+    for (text, left) in [
+        ("", 0),
+        ("1,", 0),
+        ("1,02 ", 2),
+        ("1,,2 ", 3),
+        ("1;2 ", 3),
+        ("1 2", 1),
+    ] {
+        let bad = Err(Unread::Bad(Bad { left }));
+        assert_eq!(rt; listed(alloc, text.as_bytes()), bad, "{text}");
+    }
+}
+
+/// How many numbers stand behind their count, the last one, and how many bytes follow.
+fn several(alloc: Global, text: &[u8]) -> Result<(usize, Option<i128>, usize), Unread> {
+    let (mut numbers, rest) = counted::<ReadSigned>(alloc, text)?;
+    let count = numbers.len();
+    Ok((count, numbers.pop(), rest.len()))
+}
+
+#[test]
+fn reads_counted_lists(rt: HostRuntime) {
+    let alloc = rt.alloc();
+    assert_eq!(rt; several(alloc, b" 2 -5 7 x"), Ok((2, Some(7), 2)));
+    assert_eq!(rt; several(alloc, b" 0\n"), Ok((0, None, 1)));
+    for (text, left) in [
+        (" 2 -5\n", 1),
+        (" 4000000000 1", 0),
+        (" 01 1", 3),
+        (" 1 -0", 1),
+    ] {
+        let bad = Err(Unread::Bad(Bad { left }));
+        assert_eq!(rt; several(alloc, text.as_bytes()), bad, "{text}");
+    }
+}
+
+/// Prints numbers with a sign, each behind a blank.
+struct PrintSigned;
+
+impl Printer for PrintSigned {
+    type Value = i128;
+
+    ghost spells = { Blank (Signed (Signed128 0)) };
+
+    ghost is_spelled = { λ _. true };
+
+    fn push(alloc: Global, text: &mut Vec<u8>, value: &i128) -> Result<(), AllocError> {
+        push_blank_signed(alloc, text, *value)
+    }
+}
+
+/// Two lists, put one behind the other.
+fn printed_lists(alloc: Global) -> Result<Vec<u8>, AllocError> {
+    let mut text = Vec::new(alloc);
+    push_counted::<PrintSigned>(alloc, &mut text, &[-5, 7])?;
+    push_separated::<PrintSigned>(alloc, &mut text, &1, &[2, 3], b',', b'.')?;
+    Ok(text)
+}
+
+#[test]
+fn prints_lists(rt: HostRuntime) -> Result<(), AllocError> {
+    let text = printed_lists(rt.alloc())?;
+    assert!(rt; text.as_slice() == b" 2 -5 7 1, 2, 3.".as_slice());
     Ok(())
 }

@@ -1,7 +1,7 @@
 //! Single bytes, the blank among them, and words.
 
 ghost use Rattle.std.specs.Prelude.{◌≡◌, ℕ, ◌<◌, ◌∷◌, List, map, MatchResult, IfOk, IfErr, IfSome, IfNone, length};
-ghost use Rattle.text_pieces.specs.Languages.{NoDigit, GoesOn, Reads, Fails, Exactly, OneOf};
+ghost use Rattle.text_pieces.specs.Languages.{NoDigit, GoesOn, Reads, Fails, Exactly, OneOf, NoneBefore};
 
 use crate::bad_texts::Bad;
 use crate::numbers::begins_with_digit;
@@ -52,12 +52,13 @@ pub fn exactly<'a>(text: &'a [u8], word: &[u8]) -> Result<&'a [u8], Bad>
     Ok(rest)
 }
 
-/// Which of the words stands in front of the bytes with no digit behind it, and what follows.
+/// The place of the first of the words that stands in front of the bytes with no digit behind it, and what follows.
 /// Bad at the first byte with which none of them goes on.
 pub fn one_of<'a>(text: &'a [u8], words: &[&[u8]]) -> Result<(usize, &'a [u8]), Bad>
     requires { 0 < length words.now }
-    ensures { MatchResult result (λ f. Reads (OneOf (map (λ w. w.now) words.now)) text.now f.0 f.1.now)
+    ensures reads { MatchResult result (λ f. Reads (OneOf (map (λ w. w.now) words.now)) text.now f.0 f.1.now)
         (λ e. Fails (OneOf (map (λ w. w.now) words.now)) text.now e.left) }
+    ensures first { IfOk result (λ f. NoneBefore (map (λ w. w.now) words.now) f.0 text.now) }
 {
     let mut left = text.len();
     for (i, word) in words.iter().enumerate() {

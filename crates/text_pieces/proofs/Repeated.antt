@@ -3,9 +3,10 @@ use Rattle.std.proofs.Common.{◌≡◌, ℕ, zero, suc, ◌+◌, ◌^◌, ◌<�
 use Rattle.text_pieces.specs.Languages.{NoDigit, Reads, Fails, Cat, Blank, Times}
 use Rattle.text_pieces.specs.Numbers.{Number, Any, IsCount, Counted}
 use Rattle.text_pieces.specs.Counting.{BlankCount}
-use Rattle.text_pieces.proofs.Joining.{StartsClear, OneFront, same_fails, same_reads}
-use Rattle.text_pieces.proofs.Lifting.{Lift, lift-then, lift-image, Regular, regular-cat, regular-blank, regular-image, first_fails, first_reads}
+use Rattle.text_pieces.proofs.Joining.{same_fails, same_reads}
+use Rattle.text_pieces.proofs.Lifting.{Lift, lift-then, lift-image, unambiguous-cat, unambiguous-blank, unambiguous-image, first_fails, first_reads}
 use Rattle.text_pieces.proofs.Reaching.{one_front-number, has_one-number}
+use Rattle.text_pieces.specs.Unambiguous.{OneFront, Unambiguous, StartsClear}
 
 pub reads_le : {A : Type 0} (L : A → List ℕ → Type 0) (bytes : List ℕ) (a : A) (rest : List ℕ) → Reads L bytes a rest → length rest ≤ length bytes
 reads_le L bytes a rest r = omega (arith, ap length r.whole, length-append r.text rest)
@@ -34,10 +35,10 @@ module _ {A : Type 0} (L : A → List ℕ → Type 0) where
   clear-none [] t s = subst NoDigit (sym s) tt
   clear-none (x ∷ xs) t s = absurd s
 
-  pub regular-times : Regular L → (n : ℕ) → Regular (Times L n)
-  regular-times l zero = record { one = one_front-none; clear = clear-none; some = record { value = []; text = []; spelled = refl } }
-  regular-times l (suc n) =
-      let c = regular-cat L (λ y. Times L n) l (λ y. regular-times l n) in
+  pub unambiguous-times : Unambiguous L → (n : ℕ) → Unambiguous (Times L n)
+  unambiguous-times l zero = record { one = one_front-none; clear = clear-none; some = record { value = []; text = []; spelled = refl } }
+  unambiguous-times l (suc n) =
+      let c = unambiguous-cat L (λ y. Times L n) l (λ y. unambiguous-times l n) in
       record {
         one = λ a b t u x y s r h d e.
             let p = split-times n a t s in
@@ -61,11 +62,11 @@ module _ {A : Type 0} (L : A → List ℕ → Type 0) where
     reads = λ p rest r. same_reads (Step n) (Times L (suc n)) p (p.0 ∷ p.1) (λ t s. s) bytes rest r;
   }
 
-  pub times-first : Regular L → (n : ℕ) (bytes middle : List ℕ) (a : A) → Reads L bytes a middle → Lift (Times L (suc n)) bytes (Times L n) middle (λ more. a ∷ more)
-  times-first l n bytes middle a r = lift-then (times-step n bytes) (first_reads L (λ y. Times L n) bytes middle a l.one (λ y. regular-times l n) r)
+  pub times-first : Unambiguous L → (n : ℕ) (bytes middle : List ℕ) (a : A) → Reads L bytes a middle → Lift (Times L (suc n)) bytes (Times L n) middle (λ more. a ∷ more)
+  times-first l n bytes middle a r = lift-then (times-step n bytes) (first_reads L (λ y. Times L n) bytes middle a l.one (λ y. unambiguous-times l n) r)
 
-  pub times-fails : Regular L → (n : ℕ) (bytes : List ℕ) (left : ℕ) → Fails L bytes left → Fails (Times L (suc n)) bytes left
-  times-fails l n bytes left f = (times-step n bytes).fails left (first_fails L (λ y. Times L n) bytes left (λ y. regular-times l n) f)
+  pub times-fails : Unambiguous L → (n : ℕ) (bytes : List ℕ) (left : ℕ) → Fails L bytes left → Fails (Times L (suc n)) bytes left
+  times-fails l n bytes left f = (times-step n bytes).fails left (first_fails L (λ y. Times L n) bytes left (λ y. unambiguous-times l n) f)
 
   pub times-none : (bytes : List ℕ) → NoDigit bytes → Reads (Times L 0) bytes [] bytes
   times-none bytes d = record { text = []; spelled = refl; whole = refl; ends = d }
@@ -74,18 +75,18 @@ module _ {A : Type 0} (L : A → List ℕ → Type 0) where
   abbrev Count : ℕ → List ℕ → Type 0
   Count = Blank (Number Any)
 
-  regular-count : Regular Count
-  regular-count = regular-blank (Number Any) (one_front-number Any) (has_one-number Any 0 tt)
+  unambiguous-count : Unambiguous Count
+  unambiguous-count = unambiguous-blank (Number Any) (one_front-number Any) (has_one-number Any 0 tt)
 
-  pub regular-counted : Regular L → Regular (Counted L)
-  regular-counted l = regular-image (λ (p : ℕ × List A). p.1) (Cat Count (Times L)) (regular-cat Count (Times L) regular-count (regular-times l))
+  pub unambiguous-counted : Unambiguous L → Unambiguous (Counted L)
+  unambiguous-counted l = unambiguous-image (λ (p : ℕ × List A). p.1) (Cat Count (Times L)) (unambiguous-cat Count (Times L) unambiguous-count (unambiguous-times l))
 
-  pub counted-fails : Regular L → (bytes : List ℕ) (left : ℕ) → Fails Count bytes left → Fails (Counted L) bytes left
-  counted-fails l bytes left f = (lift-image (λ (p : ℕ × List A). p.1) (Cat Count (Times L)) bytes).fails left (first_fails Count (Times L) bytes left (regular-times l) f)
+  pub counted-fails : Unambiguous L → (bytes : List ℕ) (left : ℕ) → Fails Count bytes left → Fails (Counted L) bytes left
+  counted-fails l bytes left f = (lift-image (λ (p : ℕ × List A). p.1) (Cat Count (Times L)) bytes).fails left (first_fails Count (Times L) bytes left (unambiguous-times l) f)
 
-  pub counted-count : Regular L → (n : ℕ) (bytes middle : List ℕ) → Reads Count bytes n middle → Lift (Counted L) bytes (Times L n) middle (λ xs. xs)
+  pub counted-count : Unambiguous L → (n : ℕ) (bytes middle : List ℕ) → Reads Count bytes n middle → Lift (Counted L) bytes (Times L n) middle (λ xs. xs)
   counted-count l n bytes middle r =
-      lift-then (lift-image (λ (p : ℕ × List A). p.1) (Cat Count (Times L)) bytes) (first_reads Count (Times L) bytes middle n regular-count.one (regular-times l) r)
+      lift-then (lift-image (λ (p : ℕ × List A). p.1) (Cat Count (Times L)) bytes) (first_reads Count (Times L) bytes middle n unambiguous-count.one (unambiguous-times l) r)
 
   -- ---- a loop that has read some of so many
   pub record ReadSo (n : ℕ) (bytes : List ℕ) (so_far : List A) (rest : List ℕ) : Type 0 where
@@ -97,7 +98,7 @@ module _ {A : Type 0} (L : A → List ℕ → Type 0) where
   pub read_none : (n : ℕ) (bytes : List ℕ) → NoDigit bytes → ReadSo n bytes [] bytes
   read_none n bytes d = record { left = n; lift = record { fails = λ left f. f; reads = λ b rest r. r }; count = omega arith; ends = d }
 
-  pub read_more : Regular L → (n : ℕ) (bytes : List ℕ) (so_far : List A) (rest last : List ℕ) (a : A) → length so_far < n → ReadSo n bytes so_far rest → Reads L rest a last
+  pub read_more : Unambiguous L → (n : ℕ) (bytes : List ℕ) (so_far : List A) (rest last : List ℕ) (a : A) → length so_far < n → ReadSo n bytes so_far rest → Reads L rest a last
       → ReadSo n bytes (so_far ++ a ∷ []) last
   read_more l n bytes so_far rest last a less s r = by s.left s.lift s.count
     where
@@ -122,7 +123,7 @@ module _ {A : Type 0} (L : A → List ℕ → Type 0) where
       by zero lift count = subst (λ v. Reads (Times L n) bytes v rest) (append-nil so_far) (lift.reads [] rest (times-none rest s.ends))
       by (suc left) lift count = absurd (omega arith)
 
-  pub read_fails : Regular L → (n : ℕ) (bytes : List ℕ) (so_far : List A) (rest : List ℕ) (at : ℕ) → length so_far < n → ReadSo n bytes so_far rest → Fails L rest at → Fails (Times L n) bytes at
+  pub read_fails : Unambiguous L → (n : ℕ) (bytes : List ℕ) (so_far : List A) (rest : List ℕ) (at : ℕ) → length so_far < n → ReadSo n bytes so_far rest → Fails L rest at → Fails (Times L n) bytes at
   read_fails l n bytes so_far rest at less s f = by s.left s.lift s.count
     where
       by : (left : ℕ) → Lift (Times L n) bytes (Times L left) rest (λ more. so_far ++ more) → length so_far + left ≡ n → Fails (Times L n) bytes at
@@ -137,7 +138,7 @@ module _ {A : Type 0} (L : A → List ℕ → Type 0) where
     pub lift : Lift (Counted L) bytes (Times L number) middle (λ xs. xs)
     pub so : ReadSo number middle so_far rest
 
-  pub some_none : Regular L → (bytes : List ℕ) (count : ℕ) (rest : List ℕ) → BlankCount bytes count rest → SomeSo bytes count [] rest
+  pub some_none : Unambiguous L → (bytes : List ℕ) (count : ℕ) (rest : List ℕ) → BlankCount bytes count rest → SomeSo bytes count [] rest
   some_none l bytes count rest r = record {
     number = r.number;
     is = r.is;
@@ -146,7 +147,7 @@ module _ {A : Type 0} (L : A → List ℕ → Type 0) where
     so = read_none r.number rest r.reads.ends;
   }
 
-  pub some_more : Regular L → (bytes : List ℕ) (count : ℕ) (so_far : List A) (rest last : List ℕ) (a : A) → length so_far < count → SomeSo bytes count so_far rest → Reads L rest a last
+  pub some_more : Unambiguous L → (bytes : List ℕ) (count : ℕ) (so_far : List A) (rest last : List ℕ) (a : A) → length so_far < count → SomeSo bytes count so_far rest → Reads L rest a last
       → SomeSo bytes count (so_far ++ a ∷ []) last
   some_more l bytes count so_far rest last a less s r = record {
     number = s.number;
@@ -156,7 +157,7 @@ module _ {A : Type 0} (L : A → List ℕ → Type 0) where
     so = read_more l s.number s.middle so_far rest last a (omega (arith, s.is)) s.so r;
   }
 
-  pub some_fails : Regular L → (bytes : List ℕ) (count : ℕ) (so_far : List A) (rest : List ℕ) (at : ℕ) → length so_far < count → SomeSo bytes count so_far rest → Fails L rest at
+  pub some_fails : Unambiguous L → (bytes : List ℕ) (count : ℕ) (so_far : List A) (rest : List ℕ) (at : ℕ) → length so_far < count → SomeSo bytes count so_far rest → Fails L rest at
       → Fails (Counted L) bytes at
   some_fails l bytes count so_far rest at less s f = s.lift.fails at (read_fails l s.number s.middle so_far rest at (omega (arith, s.is)) s.so f)
 
