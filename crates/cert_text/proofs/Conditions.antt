@@ -27,7 +27,7 @@ use Rattle.cert_text.specs.Sums.{Terms, SpellsLin}
 use Rattle.cert_text.specs.Grammar.{RowParts, SpellsRow, NodeParts, Node, TreeWithin, Spells}
 use Rattle.cert_text.specs.Parsing.{Begins}
 use Rattle.cert_text.specs.Spelled.{all_yes, row_is_spelled, node_is_spelled, tree_is_spelled, is_spelled}
-use Rattle.text_pieces.proofs.Lists.{length-times}
+use Rattle.text_pieces.proofs.Repeated.{length-times}
 use Rattle.cert_text.proofs.Ascending.{AscendsFrom}
 
 and_yes : (a b : Bool) → a ≡ true → b ≡ true → (a && b) ≡ true

@@ -9,8 +9,8 @@ use Rattle.text_pieces.specs.Languages.{NoDigit, Reads, Fails, OneOf}
 use Rattle.cert_text.specs.Grammar.{NodeWord, RowWord, node_word, row_word}
 use Rattle.cert_text.specs.Places.{node_words, row_words, node_kind_at, row_kind_at}
 use Rattle.text_pieces.proofs.Joining.{same_fails, same_reads}
-use Rattle.text_pieces.proofs.Lifting.{Regular}
 use Rattle.text_pieces.proofs.WordFronts.{one_front-words}
+use Rattle.text_pieces.specs.Unambiguous.{Unambiguous}
 
 some_same : {a b : List ℕ} → ◌≡◌ {A = Option (List ℕ)} (Some a) (Some b) → b ≡ a
 some_same h = cc
@@ -86,8 +86,8 @@ clear-node_word Solve = refl
 clear-node_word Least = refl
 clear-node_word Clash = refl
 
-pub regular-node_word : Regular NodeWord
-regular-node_word = record {
+pub unambiguous-node_word : Unambiguous NodeWord
+unambiguous-node_word = record {
   one = one_front-words node_word guess_node known_node;
   clear = λ k t s. subst NoDigit (sym s) (clear-node_word k);
   some = record { value = Clash; text = codes "clash"; spelled = refl };
@@ -105,8 +105,8 @@ clear-row_word : (k : RowKind) → NoDigit (row_word k)
 clear-row_word Inst = refl
 clear-row_word Low = refl
 
-pub regular-row_word : Regular RowWord
-regular-row_word = record {
+pub unambiguous-row_word : Unambiguous RowWord
+unambiguous-row_word = record {
   one = one_front-words row_word guess_row known_row;
   clear = λ k t s. subst NoDigit (sym s) (clear-row_word k);
   some = record { value = Low; text = codes "low"; spelled = refl };

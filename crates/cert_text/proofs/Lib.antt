@@ -1,6 +1,6 @@
 pub mod Rooms
 pub mod Kinded
-pub mod Regulars
+pub mod ToldApart
 pub mod Levels
 pub mod Sure
 pub mod Wholes
@@ -10,3 +10,4 @@ pub mod Printed
 pub mod Conditions
 pub mod TreeInduction
 pub mod Existing
+pub mod Fitting

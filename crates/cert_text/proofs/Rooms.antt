@@ -4,10 +4,11 @@ use Rattle.text_pieces.specs.Decimals.{decimal}
 use Rattle.text_pieces.specs.Languages.{NoDigit, Reads, Fails, Cat, Blank}
 use Rattle.text_pieces.specs.Numbers.{Number, Within, Any, Signed, Signed128}
 use Rattle.cert_text.specs.Sums.{Term, Terms, RoomTerms, SpellsLin, lin_of}
-use Rattle.text_pieces.proofs.Joining.{StartsClear, HasOne, OneFront, clear-blank, has_one-blank, one_front-blank, cat_fails_first, one_front-cat, same_fails, same_reads}
+use Rattle.text_pieces.proofs.Joining.{clear-blank, has_one-blank, one_front-blank, cat_fails_first, one_front-cat, same_fails, same_reads}
 use Rattle.text_pieces.proofs.Lifting.{Lift, lift-then, lift-cat, lift-image, clear-cat, one_front-image}
 use Rattle.text_pieces.proofs.Reaching.{one_front-number}
 use Rattle.text_pieces.proofs.Negatives.{one_front-signed, has_one-signed}
+use Rattle.text_pieces.specs.Unambiguous.{HasOne, OneFront, StartsClear}
 
 -- ---- one term
 abbrev Unknown : ℕ → ℕ → ℕ → List ℕ → Type 0

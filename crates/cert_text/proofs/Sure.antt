@@ -8,21 +8,22 @@ use Rattle.std.specs.Prelude.{codes}
 use Rattle.text_pieces.specs.Languages.{Cat, Blank, Image, Times}
 use Rattle.text_pieces.specs.Numbers.{Number, Any, Counted}
 use Rattle.cert_text.specs.Grammar.{NodeWord, NodeParts, Node, TreeWithin, SpellsTree}
-use Rattle.text_pieces.proofs.Joining.{StartsClear, HasOne, OneFront, clear-blank, one_front-blank, one_front-cat, same_fails, same_reads}
-use Rattle.text_pieces.proofs.Lifting.{Lift, lift-then, lift-blank, lift-image, Regular, regular-blank, regular-image, clear-cat, one_front-image}
-use Rattle.text_pieces.proofs.Lists.{split-times, regular-counted, regular-times, one_front-none, clear-none}
+use Rattle.text_pieces.proofs.Joining.{clear-blank, one_front-blank, one_front-cat, same_fails, same_reads}
+use Rattle.text_pieces.proofs.Lifting.{Lift, lift-then, lift-blank, lift-image, unambiguous-blank, unambiguous-image, clear-cat, one_front-image}
+use Rattle.text_pieces.proofs.Repeated.{split-times, unambiguous-counted, unambiguous-times, one_front-none, clear-none}
 use Rattle.text_pieces.proofs.Reaching.{one_front-number}
-use Rattle.cert_text.proofs.Kinded.{regular-node_word}
-use Rattle.cert_text.proofs.Regulars.{regular-index, regular-modulus, regular-sum, regular-multiples}
+use Rattle.cert_text.proofs.Kinded.{unambiguous-node_word}
+use Rattle.cert_text.proofs.ToldApart.{unambiguous-index, unambiguous-modulus, unambiguous-sum, unambiguous-multiples}
 use Rattle.text_pieces.proofs.Chains.{both}
 use Rattle.cert_text.proofs.Levels.{limit-tree, from_node, to_node, raised, above, above_swap}
+use Rattle.text_pieces.specs.Unambiguous.{HasOne, OneFront, Unambiguous, StartsClear}
 
--- as Regular, of a language that may be empty
+-- as Unambiguous, of a language that may be empty
 pub record Sure {A : Type 0} (L : A → List ℕ → Type 0) : Type 0 where
   pub one : OneFront L
   pub clear : StartsClear L
 
-sure : {A : Type 0} {L : A → List ℕ → Type 0} → Regular L → Sure L
+sure : {A : Type 0} {L : A → List ℕ → Type 0} → Unambiguous L → Sure L
 sure r = record { one = r.one; clear = r.clear }
 
 sure-cat : {A B : Type 0} {L : A → List ℕ → Type 0} {M : A → B → List ℕ → Type 0} → Sure L → ((a : A) → Sure (M a)) → Sure (Cat L M)
@@ -57,17 +58,17 @@ module _ (L : Tree → List ℕ → Type 0) (one : OneFront L) where
   child = sure-blank L one
 
   sure-parts : (kind : NodeKind) → Sure (NodeParts L kind)
-  sure-parts Case = sure-image _ _ (sure-cat (sure regular-index) (λ clause. sure-counted (Blank L) child))
-  sure-parts Combine = sure-image _ _ (sure-cat (sure regular-multiples) (λ list. child))
-  sure-parts Cut = sure-image _ _ (sure-cat (sure regular-index) (λ fact. child))
-  sure-parts Branch = sure-image _ _ (sure-cat (sure regular-sum) (λ t. sure-cat child (λ left. child)))
-  sure-parts Residues = sure-image _ _ (sure-cat (sure regular-modulus) (λ m. sure-cat (sure regular-sum) (λ t. sure-times (Blank L) child m)))
-  sure-parts Solve = sure-image _ _ (sure-cat (sure regular-index) (λ fact. sure-cat (sure regular-index) (λ p. child)))
-  sure-parts Least = sure-image _ _ (sure-cat (sure regular-index) (λ p. sure-counted (Blank L) child))
-  sure-parts Clash = sure-image _ _ (sure regular-index)
+  sure-parts Case = sure-image _ _ (sure-cat (sure unambiguous-index) (λ clause. sure-counted (Blank L) child))
+  sure-parts Combine = sure-image _ _ (sure-cat (sure unambiguous-multiples) (λ list. child))
+  sure-parts Cut = sure-image _ _ (sure-cat (sure unambiguous-index) (λ fact. child))
+  sure-parts Branch = sure-image _ _ (sure-cat (sure unambiguous-sum) (λ t. sure-cat child (λ left. child)))
+  sure-parts Residues = sure-image _ _ (sure-cat (sure unambiguous-modulus) (λ m. sure-cat (sure unambiguous-sum) (λ t. sure-times (Blank L) child m)))
+  sure-parts Solve = sure-image _ _ (sure-cat (sure unambiguous-index) (λ fact. sure-cat (sure unambiguous-index) (λ p. child)))
+  sure-parts Least = sure-image _ _ (sure-cat (sure unambiguous-index) (λ p. sure-counted (Blank L) child))
+  sure-parts Clash = sure-image _ _ (sure unambiguous-index)
 
   sure-node : Sure (Node L)
-  sure-node = sure-image (λ (p : NodeKind × Tree). p.1) (Cat NodeWord (NodeParts L)) (sure-cat (sure regular-node_word) sure-parts)
+  sure-node = sure-image (λ (p : NodeKind × Tree). p.1) (Cat NodeWord (NodeParts L)) (sure-cat (sure unambiguous-node_word) sure-parts)
 
 one_front-within : (k : ℕ) → OneFront (TreeWithin k)
 one_front-within zero a b t u x y s r h d e = absurd s
@@ -85,7 +86,7 @@ clear-tree a t s = (sure-node SpellsTree one_front-tree).clear a t (to_node a t 
 
 has_one-tree : HasOne SpellsTree
 has_one-tree =
-    let n = regular-index.some in
+    let n = unambiguous-index.some in
     record {
       value = node.Clash n.value;
       text = codes "clash" ++ n.text;
@@ -96,28 +97,28 @@ has_one-tree =
       });
     }
 
-pub regular-tree : Regular SpellsTree
-regular-tree = record { one = one_front-tree; clear = clear-tree; some = has_one-tree }
+pub unambiguous-tree : Unambiguous SpellsTree
+unambiguous-tree = record { one = one_front-tree; clear = clear-tree; some = has_one-tree }
 
-pub regular-blank_tree : Regular (Blank SpellsTree)
-regular-blank_tree = regular-blank SpellsTree one_front-tree has_one-tree
+pub unambiguous-blank_tree : Unambiguous (Blank SpellsTree)
+unambiguous-blank_tree = unambiguous-blank SpellsTree one_front-tree has_one-tree
 
-pub regular-some_trees : Regular (Counted (Blank SpellsTree))
-regular-some_trees = regular-counted (Blank SpellsTree) regular-blank_tree
+pub unambiguous-some_trees : Unambiguous (Counted (Blank SpellsTree))
+unambiguous-some_trees = unambiguous-counted (Blank SpellsTree) unambiguous-blank_tree
 
-pub regular-times_trees : (n : ℕ) → Regular (Times (Blank SpellsTree) n)
-regular-times_trees n = regular-times (Blank SpellsTree) regular-blank_tree n
+pub unambiguous-times_trees : (n : ℕ) → Unambiguous (Times (Blank SpellsTree) n)
+unambiguous-times_trees n = unambiguous-times (Blank SpellsTree) unambiguous-blank_tree n
 
 -- no modulus needs a child that has no text
-pub regular-node_parts : (kind : NodeKind) → Regular (NodeParts SpellsTree kind)
-regular-node_parts Case = regular-image _ _ (both regular-index (λ clause. regular-some_trees))
-regular-node_parts Combine = regular-image _ _ (both regular-multiples (λ list. regular-blank_tree))
-regular-node_parts Cut = regular-image _ _ (both regular-index (λ fact. regular-blank_tree))
-regular-node_parts Branch = regular-image _ _ (both regular-sum (λ t. both regular-blank_tree (λ left. regular-blank_tree)))
-regular-node_parts Residues = regular-image _ _ (both regular-modulus (λ m. both regular-sum (λ t. regular-times_trees m)))
-regular-node_parts Solve = regular-image _ _ (both regular-index (λ fact. both regular-index (λ p. regular-blank_tree)))
-regular-node_parts Least = regular-image _ _ (both regular-index (λ p. regular-some_trees))
-regular-node_parts Clash = regular-image _ _ regular-index
+pub unambiguous-node_parts : (kind : NodeKind) → Unambiguous (NodeParts SpellsTree kind)
+unambiguous-node_parts Case = unambiguous-image _ _ (both unambiguous-index (λ clause. unambiguous-some_trees))
+unambiguous-node_parts Combine = unambiguous-image _ _ (both unambiguous-multiples (λ list. unambiguous-blank_tree))
+unambiguous-node_parts Cut = unambiguous-image _ _ (both unambiguous-index (λ fact. unambiguous-blank_tree))
+unambiguous-node_parts Branch = unambiguous-image _ _ (both unambiguous-sum (λ t. both unambiguous-blank_tree (λ left. unambiguous-blank_tree)))
+unambiguous-node_parts Residues = unambiguous-image _ _ (both unambiguous-modulus (λ m. both unambiguous-sum (λ t. unambiguous-times_trees m)))
+unambiguous-node_parts Solve = unambiguous-image _ _ (both unambiguous-index (λ fact. both unambiguous-index (λ p. unambiguous-blank_tree)))
+unambiguous-node_parts Least = unambiguous-image _ _ (both unambiguous-index (λ p. unambiguous-some_trees))
+unambiguous-node_parts Clash = unambiguous-image _ _ unambiguous-index
 
 -- from a tree to its node
 pub tree_node : (bytes : List ℕ) → Lift SpellsTree bytes (Node SpellsTree) bytes (λ (a : Tree). a)

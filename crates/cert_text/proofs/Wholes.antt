@@ -9,21 +9,22 @@ use Rattle.text_pieces.specs.Languages.{NoDigit, GoesOn, Reads, StopsAt, Fails, 
 use Rattle.text_pieces.specs.Numbers.{Counted}
 use Rattle.cert_text.specs.Grammar.{SpellsRow, Spells, cert_of}
 use Rattle.cert_text.specs.Parsing.{Begins, NoneBegins}
-use Rattle.text_pieces.proofs.Lifting.{Regular, regular-image}
-use Rattle.text_pieces.proofs.Lists.{regular-counted}
-use Rattle.text_pieces.proofs.WordFronts.{regular-exactly}
-use Rattle.cert_text.proofs.Regulars.{regular-blank_row}
-use Rattle.cert_text.proofs.Sure.{regular-blank_tree}
+use Rattle.text_pieces.proofs.Lifting.{unambiguous-image}
+use Rattle.text_pieces.proofs.Repeated.{unambiguous-counted}
+use Rattle.text_pieces.proofs.WordFronts.{unambiguous-exactly}
+use Rattle.cert_text.proofs.ToldApart.{unambiguous-blank_row}
+use Rattle.cert_text.proofs.Sure.{unambiguous-blank_tree}
 use Rattle.text_pieces.proofs.Chains.{both}
+use Rattle.text_pieces.specs.Unambiguous.{Unambiguous}
 
-pub regular-rows : Regular (Counted (Blank SpellsRow))
-regular-rows = regular-counted (Blank SpellsRow) regular-blank_row
+pub unambiguous-rows : Unambiguous (Counted (Blank SpellsRow))
+unambiguous-rows = unambiguous-counted (Blank SpellsRow) unambiguous-blank_row
 
-pub regular-word : Regular (Exactly (codes "cert"))
-regular-word = regular-exactly (codes "cert") refl
+pub unambiguous-word : Unambiguous (Exactly (codes "cert"))
+unambiguous-word = unambiguous-exactly (codes "cert") refl
 
-pub regular-cert : Regular Spells
-regular-cert = regular-image cert_of _ (both regular-word (λ word. both regular-rows (λ rows. regular-blank_tree)))
+pub unambiguous-cert : Unambiguous Spells
+unambiguous-cert = unambiguous-image cert_of _ (both unambiguous-word (λ word. both unambiguous-rows (λ rows. unambiguous-blank_tree)))
 
 -- ---- laws
 no_more : {c : ℕ} {cs : List ℕ} → ◌≡◌ {A = List ℕ} (c ∷ cs) [] → ⊥
@@ -34,10 +35,10 @@ digit_behind a b t c more s r = by (is_digit c) refl
   where
     by : (d : Bool) → is_digit c ≡ d → is_digit c ≡ true
     by true e = e
-    by false e = absurd (no_more (regular-cert.one a b t (t ++ c ∷ more) (c ∷ more) [] s r (sym (append-nil (t ++ c ∷ more))) e tt).rest)
+    by false e = absurd (no_more (unambiguous-cert.one a b t (t ++ c ∷ more) (c ∷ more) [] s r (sym (append-nil (t ++ c ∷ more))) e tt).rest)
 
 pub same_cert : (a b : Cert) (t : List ℕ) → Spells a t → Spells b t → a ≡ b
-same_cert a b t s r = (regular-cert.one a b t t [] [] s r refl tt tt).value
+same_cert a b t s r = (unambiguous-cert.one a b t t [] [] s r refl tt tt).value
 
 -- ---- by places
 pub begins : (bytes : List ℕ) (cert : Cert) (rest : List ℕ) (taken : ℕ) → taken + length rest ≡ length bytes → Reads Spells bytes cert rest → Begins cert taken bytes

@@ -36,6 +36,7 @@ abbrev pub Multiple : ℕ × ℤ → List ℕ → Type 0
 Multiple = Cat Index (λ fact. Whole)
 
 -- ---- rows
+-- the word in front of a row
 abbrev pub row_word : RowKind → List ℕ
 row_word Inst = codes "inst"
 row_word Low = codes "low"
@@ -45,13 +46,16 @@ abbrev pub RowParts : RowKind → Row → List ℕ → Type 0
 RowParts Inst = Image (λ (p : ℕ × (ℕ × (ℤ × Lin))). row.Inst p.0 (p.1.0) (p.1.1.0) (p.1.1.1)) (Cat Index (λ clause. Cat Index (λ x. Cat Whole (λ a. Sum))))
 RowParts Low = Image (λ (p : ℕ × (ℕ × ℤ)). row.Low p.0 (p.1.0) (p.1.1)) (Cat Index (λ clause. Cat Index (λ x. Whole)))
 
+-- the word of a row
 abbrev pub RowWord : RowKind → List ℕ → Type 0
 RowWord kind text = text ≡ row_word kind
 
+-- a row: its word, and behind it its parts
 abbrev pub SpellsRow : Row → List ℕ → Type 0
 SpellsRow = Image (λ (p : RowKind × Row). p.1) (Cat RowWord RowParts)
 
 -- ---- trees
+-- the word in front of a node
 abbrev pub node_word : NodeKind → List ℕ
 node_word Case = codes "case"
 node_word Combine = codes "combine"
@@ -73,6 +77,7 @@ NodeParts L Solve = Image (λ (p : ℕ × (ℕ × Tree)). node.Solve p.0 (p.1.0)
 NodeParts L Least = Image (λ (p : ℕ × List Tree). node.Least p.0 p.1) (Cat Index (λ p. Counted (Blank L)))
 NodeParts L Clash = Image node.Clash Index
 
+-- the word of a node
 abbrev pub NodeWord : NodeKind → List ℕ → Type 0
 NodeWord kind text = text ≡ node_word kind
 
@@ -85,11 +90,13 @@ abbrev pub TreeWithin : ℕ → Tree → List ℕ → Type 0
 TreeWithin zero = λ tree text. ⊥
 TreeWithin (suc levels) = Node (TreeWithin levels)
 
+-- a tree of any number of levels
 pub record SpellsTree (tree : Tree) (text : List ℕ) : Type 0 where
   pub levels : ℕ
   pub within : TreeWithin levels tree text
 
 -- ---- certificates
+-- the certificate that is made of the rows and the tree behind the word
 abbrev pub cert_of : Unit {0} × (List Row × Tree) → Cert
 cert_of p = record { rows = p.1.0; tree = p.1.1 }
 

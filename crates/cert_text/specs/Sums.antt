@@ -14,9 +14,11 @@ Terms zero low [] text = text ≡ []
 Terms (suc n) low (term ∷ terms) text = Cat (Term low (2 ^ 32 - 1)) (λ first. Terms n (suc (first.0))) (term, terms) text
 Terms _ low _ text = ⊥
 
+-- the sum that is made of its terms and its constant, behind the number of terms
 abbrev pub lin_of : ℕ × (List (ℕ × ℤ) × ℤ) → Lin
 lin_of parts = record { coefs = parts.1.0; constant = parts.1.1 }
 
+-- a sum
 abbrev pub SpellsLin : Lin → List ℕ → Type 0
 SpellsLin = Image lin_of (Cat (Number Any) (λ n. Cat (Terms n 0) (λ terms. Blank (Signed (Signed128 0)))))
 

@@ -62,7 +62,8 @@ pub fn parse_cert(alloc: Global, bytes: &[u8]) -> Result<(Cert, u64), TextError>
     }
 }
 
-/// Puts a certificate behind the text.
+/// Puts the spelling of a certificate behind the text, on the condition of `print_cert`. Where memory runs out, the text still begins
+/// with what it held.
 pub fn push_cert(alloc: Global, text: &mut Vec<u8>, cert: &Cert) -> Result<(), AllocError>
     requires { IsTrue (is_spelled cert.now) }
     ensures { Puts Spells cert.now text.old.items text.new.items result }
@@ -72,7 +73,8 @@ pub fn push_cert(alloc: Global, text: &mut Vec<u8>, cert: &Cert) -> Result<(), A
     push_blank_tree(alloc, text, &cert.tree)
 }
 
-/// The spelling of a certificate whose sums are sums and whose nodes `residues` have as many children as their modulus says.
+/// The spelling of a certificate, on the condition that in each sum the unknowns ascend and no coefficient is 0, and that each node
+/// `residues` has as many children as its modulus says. Where memory runs out there is no text.
 pub fn print_cert(alloc: Global, cert: &Cert) -> Result<Vec<u8>, AllocError>
     requires { IsTrue (is_spelled cert.now) }
     ensures { IfOk result (λ text. Spells cert.now text.items) }

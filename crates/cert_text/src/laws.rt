@@ -23,9 +23,11 @@ pub fn one_spelling()
     ensures { (a : Cert) (text other : List ℕ) → Spells a text → Spells a other → text ≡ other }
 {}
 
-/// A certificate that has a spelling meets the condition of printing: no other one has a spelling.
+/// A certificate that has a spelling meets the condition of printing, and its numbers are within the ranges of their types: no
+/// other one has a spelling.
 pub fn no_other_is_spelled()
-    ensures { (a : Cert) (text : List ℕ) → Spells a text → IsTrue (is_spelled a) }
+    ensures condition { (a : Cert) (text : List ℕ) → Spells a text → IsTrue (is_spelled a) }
+    ensures ranges { (a : Cert) (text : List ℕ) → Spells a text → IsTrue (cert_fits a) }
 {}
 
 /// Each certificate that meets the condition of printing has a spelling, its numbers being within the ranges of their types.

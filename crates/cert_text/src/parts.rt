@@ -4,7 +4,6 @@ ghost use Rattle.std.specs.Prelude.{◌≡◌, ℕ, ◌<◌, ◌≤◌, MatchRes
 ghost use Rattle.text_pieces.specs.Languages.{Reads, Fails, Blank};
 ghost use Rattle.text_pieces.specs.Numbers.{Number, Word32, Any, IsCount, Counted};
 ghost use Rattle.text_pieces.specs.Failing.{Unreadable};
-ghost use Rattle.text_pieces.specs.Counting.{BlankCount};
 ghost use Rattle.cert_text.specs.Grammar.{Index, Whole, Sum, Multiple, SpellsRow, RowParts};
 ghost use Rattle.cert_text.specs.declared.kinds.RowKind.TheVariants as kind;
 
@@ -14,7 +13,7 @@ use cert_tree::Row;
 use lin_base::Lin;
 use sqlite_items::Items;
 use std::alloc::Global;
-use text_pieces::{Bad, Unread, blank, blank_count, blank_signed, word32};
+use text_pieces::{Bad, Reader, Unread, blank, blank_signed, counted, word32};
 
 /// A blank and behind it a `u32`, and what follows. Bad at the first byte with which none goes on.
 pub fn index(text: &[u8]) -> Result<(u32, &[u8]), Bad>
@@ -39,18 +38,25 @@ fn multiple(text: &[u8]) -> Result<((u32, i128), &[u8]), Bad>
     Ok(((fact, k), rest))
 }
 
-/// The facts' numbers with their multipliers, behind a blank and their count.
-pub fn multiples(alloc: Global, text: &[u8]) -> Result<(Items<(u32, i128)>, &[u8]), Unread>
-    ensures { MatchResult result (λ f. Reads (Counted Multiple) text.now f.0 f.1.now) (Unreadable (Counted Multiple) text.now) }
-{
-    let (count, mut rest) = blank_count(text)?;
-    let mut list = Items::new(alloc);
-    while (list.len() as u128) < count {
-        let (next, more) = multiple(rest)?;
-        list.push(next)?;
-        rest = more;
+// Reads facts' numbers with their multipliers.
+struct ReadMultiple;
+
+impl Reader for ReadMultiple {
+    type Value = (u32, i128);
+
+    ghost spells = { Multiple };
+
+    fn read(_alloc: Global, text: &[u8]) -> Result<((u32, i128), &[u8]), Unread> {
+        Ok(multiple(text)?)
     }
-    Ok((list, rest))
+}
+
+/// The facts' numbers with their multipliers, behind a blank and their count. Bad at the first byte with which none go on.
+pub fn multiples(alloc: Global, text: &[u8]) -> Result<(Items<(u32, i128)>, &[u8]), Unread>
+    ensures { MatchResult result (λ f. Reads (Counted Multiple) text.now f.0 f.1.now)
+        (Unreadable (Counted Multiple) text.now) }
+{
+    counted::<ReadMultiple>(alloc, text)
 }
 
 // What stands behind `inst`.
@@ -65,8 +71,8 @@ fn inst(alloc: Global, text: &[u8]) -> Result<(Row, &[u8]), Unread>
 }
 
 // What stands behind `low`.
-fn low(text: &[u8]) -> Result<(Row, &[u8]), Unread>
-    ensures { MatchResult result (λ f. Reads (RowParts kind.Low) text.now f.0 f.1.now) (Unreadable (RowParts kind.Low) text.now) }
+fn low(text: &[u8]) -> Result<(Row, &[u8]), Bad>
+    ensures { MatchResult result (λ f. Reads (RowParts kind.Low) text.now f.0 f.1.now) (λ e. Fails (RowParts kind.Low) text.now e.left) }
 {
     let (clause, rest) = index(text)?;
     let (x, rest) = index(rest)?;
@@ -81,27 +87,27 @@ pub fn row(alloc: Global, text: &[u8]) -> Result<(Row, &[u8]), Unread>
     let (kind, rest) = row_kind(text)?;
     match kind {
         RowKind::Inst => inst(alloc, rest),
-        RowKind::Low => low(rest),
+        RowKind::Low => Ok(low(rest)?),
     }
 }
 
-// A blank and behind it a row.
-fn blank_row(alloc: Global, text: &[u8]) -> Result<(Row, &[u8]), Unread>
-    ensures { MatchResult result (λ f. Reads (Blank SpellsRow) text.now f.0 f.1.now) (Unreadable (Blank SpellsRow) text.now) }
-{
-    row(alloc, blank(text)?)
+// Reads rows, each behind a blank.
+struct ReadRow;
+
+impl Reader for ReadRow {
+    type Value = Row;
+
+    ghost spells = { Blank SpellsRow };
+
+    fn read(alloc: Global, text: &[u8]) -> Result<(Row, &[u8]), Unread> {
+        row(alloc, blank(text)?)
+    }
 }
 
-/// The rows, behind a blank and their count.
+/// The rows, behind a blank and their count. Bad at the first byte with which none go on.
 pub fn rows(alloc: Global, text: &[u8]) -> Result<(Items<Row>, &[u8]), Unread>
-    ensures { MatchResult result (λ f. Reads (Counted (Blank SpellsRow)) text.now f.0 f.1.now) (Unreadable (Counted (Blank SpellsRow)) text.now) }
+    ensures { MatchResult result (λ f. Reads (Counted (Blank SpellsRow)) text.now f.0 f.1.now)
+        (Unreadable (Counted (Blank SpellsRow)) text.now) }
 {
-    let (count, mut rest) = blank_count(text)?;
-    let mut rows = Items::new(alloc);
-    while (rows.len() as u128) < count {
-        let (next, more) = blank_row(alloc, rest)?;
-        rows.push(next)?;
-        rest = more;
-    }
-    Ok((rows, rest))
+    counted::<ReadRow>(alloc, text)
 }

@@ -18,28 +18,28 @@ use lin_base::Lin;
 use std::alloc::{AllocError, Global};
 use text_pieces::{push, push_blank_decimal, push_blank_signed};
 
-/// Puts the number of a clause, a fact, a parameter or a variable behind the text.
+/// Puts a blank and the number of a clause, a fact, a parameter or a variable behind the text.
 pub fn push_index(alloc: Global, text: &mut Vec<u8>, n: u32) -> Result<(), AllocError>
     ensures { Puts Index n text.old.items text.new.items result }
 {
     push_blank_decimal(alloc, text, u128::from(n))
 }
 
-/// Puts a count behind the text.
+/// Puts a blank and a count behind the text.
 pub fn push_count(alloc: Global, text: &mut Vec<u8>, n: usize) -> Result<(), AllocError>
     ensures { Puts (Blank (Number Any)) n text.old.items text.new.items result }
 {
     push_blank_decimal(alloc, text, n as u128)
 }
 
-/// Puts a whole number behind the text.
+/// Puts a blank and a whole number behind the text.
 pub fn push_whole(alloc: Global, text: &mut Vec<u8>, z: i128) -> Result<(), AllocError>
     ensures { Puts Whole z text.old.items text.new.items result }
 {
     push_blank_signed(alloc, text, z)
 }
 
-// Puts a fact's number and its multiplier behind the text.
+// Puts a fact's number and its multiplier behind the text, each behind a blank.
 fn push_multiple(alloc: Global, text: &mut Vec<u8>, fact: u32, k: i128) -> Result<(), AllocError>
     ensures { Puts Multiple (fact, k) text.old.items text.new.items result }
 {
@@ -47,7 +47,7 @@ fn push_multiple(alloc: Global, text: &mut Vec<u8>, fact: u32, k: i128) -> Resul
     push_whole(alloc, text, k)
 }
 
-/// Puts facts' numbers with their multipliers and their count behind the text.
+/// Puts a blank, a count and behind it facts' numbers with their multipliers behind the text, each number behind a blank.
 pub fn push_multiples(
     alloc: Global,
     text: &mut Vec<u8>,
@@ -62,7 +62,7 @@ pub fn push_multiples(
     Ok(())
 }
 
-// Puts the terms of a sum behind the text.
+// Puts the terms of a sum behind the text, each number behind a blank.
 fn push_terms(alloc: Global, text: &mut Vec<u8>, terms: &[(u32, i128)]) -> Result<(), AllocError>
     requires { IsTrue (is_ascending terms.now && is_reduced terms.now) }
     ensures { Puts (Terms (length terms.now) 0) terms.now text.old.items text.new.items result }
@@ -73,7 +73,7 @@ fn push_terms(alloc: Global, text: &mut Vec<u8>, terms: &[(u32, i128)]) -> Resul
     Ok(())
 }
 
-/// Puts a sum behind the text.
+/// Puts a blank and a sum behind the text.
 pub fn push_lin(alloc: Global, text: &mut Vec<u8>, t: &Lin) -> Result<(), AllocError>
     requires { IsTrue (is_lin t.now) }
     ensures { Puts Sum t.now text.old.items text.new.items result }
@@ -94,6 +94,7 @@ pub fn push_row(alloc: Global, text: &mut Vec<u8>, row: &Row) -> Result<(), Allo
     }
 }
 
+// Puts a row `inst` behind the text.
 fn push_inst(
     alloc: Global,
     text: &mut Vec<u8>,
@@ -112,6 +113,7 @@ fn push_inst(
     push_lin(alloc, text, t)
 }
 
+// Puts a row `low` behind the text.
 fn push_low(
     alloc: Global,
     text: &mut Vec<u8>,
@@ -136,7 +138,7 @@ fn push_blank_row(alloc: Global, text: &mut Vec<u8>, row: &Row) -> Result<(), Al
     push_row(alloc, text, row)
 }
 
-/// Puts rows and their count behind the text.
+/// Puts a blank, the count of rows and the rows behind the text, each row behind a blank.
 pub fn push_rows(alloc: Global, text: &mut Vec<u8>, rows: &[Row]) -> Result<(), AllocError>
     requires { IsTrue (list_all row_is_spelled rows.now) }
     ensures { Puts (Counted (Blank SpellsRow)) rows.now text.old.items text.new.items result }

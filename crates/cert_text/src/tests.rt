@@ -107,6 +107,8 @@ fn tells_where_a_text_is_bad(rt: HostRuntime) {
         ("cert 0 branch 1 0 0 0 clash 0 clash 0", Some(18)),
         ("cert 0 branch 2 1 1 1 1 0 clash 0 clash 0", Some(21)),
         ("cert 0 case 0 4000000000", Some(24)),
+        ("cert 4000000000", Some(15)),
+        ("cert 0 combine 4000000000 0 1 clash 0", Some(30)),
         ("cert 0 case 0 1 clash 0 clash 1", None),
     ] {
         assert_eq!(rt; bad_at(alloc, text.as_bytes()), at, "{text}");

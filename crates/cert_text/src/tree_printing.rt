@@ -53,6 +53,7 @@ fn push_trees(alloc: Global, text: &mut Vec<u8>, trees: &[Tree]) -> Result<(), A
     Ok(())
 }
 
+// Puts a blank and a node `case` behind the text.
 #[tactic(auto, using(crate::proofs::Printed::each_tree))]
 #[cycle(push_blank_tree)]
 fn push_case(
@@ -70,6 +71,7 @@ fn push_case(
     push_trees(alloc, text, children)
 }
 
+// Puts a blank and a node `combine` behind the text.
 #[cycle(push_blank_tree)]
 fn push_combine(
     alloc: Global,
@@ -85,6 +87,7 @@ fn push_combine(
     push_blank_tree(alloc, text, child)
 }
 
+// Puts a blank and a node `cut` behind the text.
 #[cycle(push_blank_tree)]
 fn push_cut(alloc: Global, text: &mut Vec<u8>, fact: u32, child: &Tree) -> Result<(), AllocError>
     requires { IsTrue (tree_is_spelled child.now) }
@@ -95,6 +98,7 @@ fn push_cut(alloc: Global, text: &mut Vec<u8>, fact: u32, child: &Tree) -> Resul
     push_blank_tree(alloc, text, child)
 }
 
+// Puts a blank and a node `residues` behind the text.
 #[tactic(auto, using(crate::proofs::Printed::each_tree))]
 #[cycle(push_blank_tree)]
 fn push_residues(
@@ -115,6 +119,7 @@ fn push_residues(
     push_trees(alloc, text, children)
 }
 
+// Puts a blank and a node `solve` behind the text.
 #[cycle(push_blank_tree)]
 fn push_solve(
     alloc: Global,
@@ -132,6 +137,7 @@ fn push_solve(
     push_blank_tree(alloc, text, child)
 }
 
+// Puts a blank and a node `least` behind the text.
 #[tactic(auto, using(crate::proofs::Printed::each_tree))]
 #[cycle(push_blank_tree)]
 fn push_least(
@@ -150,6 +156,7 @@ fn push_least(
     push_trees(alloc, text, children)
 }
 
+// Puts a blank and a node `clash` behind the text.
 fn push_clash(alloc: Global, text: &mut Vec<u8>, fact: u32) -> Result<(), AllocError>
     ensures { Puts (Blank SpellsTree) (node.Clash fact) text.old.items text.new.items result }
 {

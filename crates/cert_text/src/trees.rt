@@ -12,7 +12,7 @@ use crate::parts::{blank_lin, index, multiples};
 use cert_tree::Tree;
 use sqlite_items::{Boxed, Items};
 use std::alloc::Global;
-use text_pieces::{Unread, blank, blank_count, blank_number};
+use text_pieces::{Bad, Unread, blank, blank_count, blank_number};
 
 /// A blank and behind it a tree, and what follows. Bad at the first byte with which none goes on.
 #[cycle(blank_tree)]
@@ -29,7 +29,7 @@ pub fn blank_tree(alloc: Global, text: &[u8]) -> Result<(Tree, &[u8]), Unread>
         NodeKind::Residues => residues(alloc, rest),
         NodeKind::Solve => solve(alloc, rest),
         NodeKind::Least => least(alloc, rest),
-        NodeKind::Clash => clash(rest),
+        NodeKind::Clash => Ok(clash(rest)?),
     }
 }
 
@@ -49,6 +49,7 @@ fn trees(alloc: Global, text: &[u8], count: u128) -> Result<(Items<Tree>, &[u8])
     Ok((trees, rest))
 }
 
+// What stands behind `case`.
 #[cycle(blank_tree)]
 fn case(alloc: Global, text: &[u8]) -> Result<(Tree, &[u8]), Unread>
     ensures { MatchResult result (λ f. Reads (NodeParts SpellsTree kind.Case) text.now f.0 f.1.now) (Unreadable (NodeParts SpellsTree kind.Case) text.now) }
@@ -59,6 +60,7 @@ fn case(alloc: Global, text: &[u8]) -> Result<(Tree, &[u8]), Unread>
     Ok((Tree::Case { clause, children }, rest))
 }
 
+// What stands behind `combine`.
 #[cycle(blank_tree)]
 fn combine(alloc: Global, text: &[u8]) -> Result<(Tree, &[u8]), Unread>
     ensures { MatchResult result (λ f. Reads (NodeParts SpellsTree kind.Combine) text.now f.0 f.1.now) (Unreadable (NodeParts SpellsTree kind.Combine) text.now) }
@@ -69,6 +71,7 @@ fn combine(alloc: Global, text: &[u8]) -> Result<(Tree, &[u8]), Unread>
     Ok((Tree::Combine { list, child }, rest))
 }
 
+// What stands behind `cut`.
 #[cycle(blank_tree)]
 fn cut(alloc: Global, text: &[u8]) -> Result<(Tree, &[u8]), Unread>
     ensures { MatchResult result (λ f. Reads (NodeParts SpellsTree kind.Cut) text.now f.0 f.1.now) (Unreadable (NodeParts SpellsTree kind.Cut) text.now) }
@@ -79,6 +82,7 @@ fn cut(alloc: Global, text: &[u8]) -> Result<(Tree, &[u8]), Unread>
     Ok((Tree::Cut { fact, child }, rest))
 }
 
+// What stands behind `branch`.
 #[cycle(blank_tree)]
 fn branch(alloc: Global, text: &[u8]) -> Result<(Tree, &[u8]), Unread>
     ensures { MatchResult result (λ f. Reads (NodeParts SpellsTree kind.Branch) text.now f.0 f.1.now) (Unreadable (NodeParts SpellsTree kind.Branch) text.now) }
@@ -91,6 +95,7 @@ fn branch(alloc: Global, text: &[u8]) -> Result<(Tree, &[u8]), Unread>
     Ok((Tree::Branch { t, left, right }, rest))
 }
 
+// What stands behind `residues`.
 #[cycle(blank_tree)]
 fn residues(alloc: Global, text: &[u8]) -> Result<(Tree, &[u8]), Unread>
     ensures { MatchResult result (λ f. Reads (NodeParts SpellsTree kind.Residues) text.now f.0 f.1.now) (Unreadable (NodeParts SpellsTree kind.Residues) text.now) }
@@ -102,6 +107,7 @@ fn residues(alloc: Global, text: &[u8]) -> Result<(Tree, &[u8]), Unread>
     Ok((Tree::Residues { m, t, children }, rest))
 }
 
+// What stands behind `solve`.
 #[cycle(blank_tree)]
 fn solve(alloc: Global, text: &[u8]) -> Result<(Tree, &[u8]), Unread>
     ensures { MatchResult result (λ f. Reads (NodeParts SpellsTree kind.Solve) text.now f.0 f.1.now) (Unreadable (NodeParts SpellsTree kind.Solve) text.now) }
@@ -113,6 +119,7 @@ fn solve(alloc: Global, text: &[u8]) -> Result<(Tree, &[u8]), Unread>
     Ok((Tree::Solve { fact, p, child }, rest))
 }
 
+// What stands behind `least`.
 #[cycle(blank_tree)]
 fn least(alloc: Global, text: &[u8]) -> Result<(Tree, &[u8]), Unread>
     ensures { MatchResult result (λ f. Reads (NodeParts SpellsTree kind.Least) text.now f.0 f.1.now) (Unreadable (NodeParts SpellsTree kind.Least) text.now) }
@@ -123,8 +130,9 @@ fn least(alloc: Global, text: &[u8]) -> Result<(Tree, &[u8]), Unread>
     Ok((Tree::Least { p, children }, rest))
 }
 
-fn clash(text: &[u8]) -> Result<(Tree, &[u8]), Unread>
-    ensures { MatchResult result (λ f. Reads (NodeParts SpellsTree kind.Clash) text.now f.0 f.1.now) (Unreadable (NodeParts SpellsTree kind.Clash) text.now) }
+// What stands behind `clash`.
+fn clash(text: &[u8]) -> Result<(Tree, &[u8]), Bad>
+    ensures { MatchResult result (λ f. Reads (NodeParts SpellsTree kind.Clash) text.now f.0 f.1.now) (λ e. Fails (NodeParts SpellsTree kind.Clash) text.now e.left) }
 {
     let (fact, rest) = index(text)?;
     Ok((Tree::Clash { fact }, rest))

@@ -1,6 +1,6 @@
 use Rattle.std.proofs.Common.{◌-◌, length, length-append, ap, arith}
 use Rattle.cert_text.specs.Grammar.{Spells}
-use Rattle.text_pieces.proofs.Lists.{reads_le}
+use Rattle.text_pieces.proofs.Repeated.{reads_le}
 use Rattle.cert_text.proofs.Wholes.{begins, none_begins}
 use Rattle.cert_text.proofs.certs.parse_cert.Goals as goal
 

@@ -2,7 +2,7 @@ use Rattle.std.proofs.Common.{ℕ, ◌+◌, ◌*◌, ◌-◌, ◌≤◌, length}
 use Rattle.text_pieces.specs.Languages.{Blank}
 use Rattle.text_pieces.specs.Numbers.{IsCount}
 use Rattle.cert_text.specs.Grammar.{SpellsTree}
-use Rattle.text_pieces.proofs.Lists.{ReadSo}
+use Rattle.text_pieces.proofs.Repeated.{ReadSo}
 use Rattle.cert_text.proofs.trees.+blank_tree.Given as goal
 
 abbrev pub decreases-blank_tree : goal.decreases-blank_tree
