@@ -4,6 +4,7 @@ pub mod Folds
 pub mod FormulaCounts
 pub mod Innermost
 pub mod Known
+pub mod Measures
 pub mod OneEmpty
 pub mod Rows
 pub mod Saturation

@@ -4,6 +4,7 @@ pub mod Cnf
 pub mod Count
 pub mod Known
 pub mod Lookup
+pub mod Measures
 pub mod Numbering
 pub mod Quantifiers
 pub mod Rows

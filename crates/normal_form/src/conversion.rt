@@ -3,12 +3,13 @@
 
 ghost use Rattle.std.specs.Prelude.{◌≡◌, ◌++◌, length, map, IfOk, OnOk, IsTrue, if◌then◌else◌, [], ◌∷◌};
 ghost use Rattle.normal_form.specs.Cnf as spec;
-ghost use Rattle.normal_form.specs.Quantifiers.{is_quantified};
+ghost use Rattle.normal_form.specs.Measures.{measures};
 
 use crate::binders::Binders;
-use crate::counting::{counts_of, may_give_clauses};
+use crate::counting::may_give_clauses;
 use crate::joins::{disjoined, join};
 use crate::literals::{Clauses, always, atom, less, less_eq, same, unit};
+use crate::measuring::{Measured, measure};
 use formula_base::Formula;
 use sqlite_items::Items;
 use std::alloc::{AllocError, Global};
@@ -22,23 +23,41 @@ pub(crate) struct Conversion {
 }
 
 impl Conversion {
-    /// The clauses of a formula with a sign, or none where they are not wanted. Its Skolem symbols are added.
-    #[cycle(visit)]
-    pub(crate) fn visit(
+    /// The clauses of a formula with a sign. Its Skolem symbols are added.
+    pub(crate) fn convert(
         &mut self,
         alloc: Global,
         formula: &Formula,
         sign: bool,
+    ) -> Result<Clauses, AllocError>
+        ensures clauses { IfOk result (λ cs. cs.items ≡ (spec.cnf formula.now sign self.old.scope (length self.old.symbols)).clauses) }
+        ensures symbols { OnOk result (self.new.symbols ≡ self.old.symbols ++ (spec.cnf formula.now sign self.old.scope (length self.old.symbols)).symbols) }
+        ensures scope { OnOk result (self.new.scope ≡ self.old.scope) }
+    {
+        let measured = measure(alloc, formula)?;
+        self.visit(alloc, formula, &measured, sign, true)
+    }
+
+    /// The clauses of a formula with a sign, or none where they are not wanted. Its Skolem symbols are added.
+    #[cycle(visit)]
+    fn visit(
+        &mut self,
+        alloc: Global,
+        formula: &Formula,
+        measured: &Measured,
+        sign: bool,
         wanted: bool,
     ) -> Result<Clauses, AllocError>
+        requires { measured.now ≡ measures formula.now }
         ensures clauses { IfOk result (λ cs. cs.items ≡ (if wanted then (spec.cnf formula.now sign self.old.scope (length self.old.symbols)).clauses else [])) }
         ensures symbols { OnOk result (self.new.symbols ≡ self.old.symbols ++ (spec.cnf formula.now sign self.old.scope (length self.old.symbols)).symbols) }
         ensures scope { OnOk result (self.new.scope ≡ self.old.scope) }
     {
-        if !wanted || counts_of(formula).of(sign) == 0 {
-            self.note(alloc, formula, sign)?;
+        if !wanted || measured.counts.of(sign) == 0 {
+            self.note(alloc, formula, measured, sign)?;
             return Ok(Vec::new(alloc));
         }
+        let parts = measured.parts.as_slice();
         match formula {
             Formula::True => always(alloc, sign),
             Formula::False => always(alloc, !sign),
@@ -46,29 +65,45 @@ impl Conversion {
             Formula::Same(s, t) => unit(alloc, same(alloc, &self.scope, sign, s, t)?),
             Formula::Less(s, t) => unit(alloc, less(alloc, &self.scope, sign, s, t)?),
             Formula::LessEq(s, t) => unit(alloc, less_eq(alloc, &self.scope, sign, s, t)?),
-            Formula::Not(f) => self.visit(alloc, f.get(), !sign, true),
-            Formula::And(fs) if sign => self.appended(alloc, fs.as_slice(), sign),
-            Formula::And(fs) => self.joined(alloc, fs.as_slice(), sign),
-            Formula::Or(fs) if sign => self.joined(alloc, fs.as_slice(), sign),
-            Formula::Or(fs) => self.appended(alloc, fs.as_slice(), sign),
+            Formula::Not(f) => self.visit(alloc, f.get(), &parts[0], !sign, true),
+            Formula::And(fs) if sign => self.appended(alloc, fs.as_slice(), parts, sign),
+            Formula::And(fs) => self.joined(alloc, fs.as_slice(), parts, sign),
+            Formula::Or(fs) if sign => self.joined(alloc, fs.as_slice(), parts, sign),
+            Formula::Or(fs) => self.appended(alloc, fs.as_slice(), parts, sign),
             Formula::Implies(f, g) => {
-                let left = self.visit(alloc, f.get(), !sign, true)?;
-                let right = self.visit(alloc, g.get(), sign, true)?;
+                let left = self.visit(alloc, f.get(), &parts[0], !sign, true)?;
+                let right = self.visit(alloc, g.get(), &parts[1], sign, true)?;
                 disjoined(alloc, sign, left, right)
             }
             Formula::Iff(f, g) => {
-                let there = may_give_clauses(f.get(), g.get(), sign);
-                let back = may_give_clauses(g.get(), f.get(), sign);
-                let left = self.visit(alloc, f.get(), !sign, there)?;
-                let right = self.visit(alloc, g.get(), sign, there)?;
+                let (f, g) = (f.get(), g.get());
+                let (m, n) = (&parts[0], &parts[1]);
+                let there = may_give_clauses(m.counts, n.counts, sign);
+                let back = may_give_clauses(n.counts, m.counts, sign);
+                let left = self.visit(alloc, f, m, !sign, there)?;
+                let right = self.visit(alloc, g, n, sign, there)?;
                 let first = disjoined(alloc, sign, left, right)?;
-                let left = self.visit(alloc, g.get(), !sign, back)?;
-                let right = self.visit(alloc, f.get(), sign, back)?;
+                let left = self.visit(alloc, g, n, !sign, back)?;
+                let right = self.visit(alloc, f, m, sign, back)?;
                 let second = disjoined(alloc, sign, left, right)?;
                 disjoined(alloc, !sign, first, second)
             }
-            Formula::All(vs, f) => self.quantified(alloc, sign, vs.as_slice(), f.get(), sign),
-            Formula::Some(vs, f) => self.quantified(alloc, !sign, vs.as_slice(), f.get(), sign),
+            Formula::All(vs, f) => self.quantified(
+                alloc,
+                sign,
+                vs.as_slice(),
+                f.get(),
+                &parts[0],
+                sign,
+            ),
+            Formula::Some(vs, f) => self.quantified(
+                alloc,
+                !sign,
+                vs.as_slice(),
+                f.get(),
+                &parts[0],
+                sign,
+            ),
         }
     }
 
@@ -78,15 +113,17 @@ impl Conversion {
         &mut self,
         alloc: Global,
         members: &[Formula],
+        parts: &[Measured],
         sign: bool,
     ) -> Result<Clauses, AllocError>
+        requires { parts.now ≡ map measures members.now }
         ensures clauses { IfOk result (λ cs. cs.items ≡ spec.appended (map (λ m. m.clauses) (spec.visit (map spec.cnf members.now) sign self.old.scope (length self.old.symbols)))) }
         ensures symbols { OnOk result (self.new.symbols ≡ self.old.symbols ++ spec.all_symbols (spec.visit (map spec.cnf members.now) sign self.old.scope (length self.old.symbols))) }
         ensures scope { OnOk result (self.new.scope ≡ self.old.scope) }
     {
         let mut all = Vec::new(alloc);
-        for member in members {
-            let mut made = self.visit(alloc, member, sign, true)?;
+        for (i, member) in members.iter().enumerate() {
+            let mut made = self.visit(alloc, member, &parts[i], sign, true)?;
             all.append(&mut made)?;
         }
         Ok(all)
@@ -98,15 +135,17 @@ impl Conversion {
         &mut self,
         alloc: Global,
         members: &[Formula],
+        parts: &[Measured],
         sign: bool,
     ) -> Result<Clauses, AllocError>
+        requires { parts.now ≡ map measures members.now }
         ensures clauses { IfOk result (λ cs. cs.items ≡ spec.joined (map (λ m. m.clauses) (spec.visit (map spec.cnf members.now) sign self.old.scope (length self.old.symbols)))) }
         ensures symbols { OnOk result (self.new.symbols ≡ self.old.symbols ++ spec.all_symbols (spec.visit (map spec.cnf members.now) sign self.old.scope (length self.old.symbols))) }
         ensures scope { OnOk result (self.new.scope ≡ self.old.scope) }
     {
         let mut all = always(alloc, false)?;
-        for member in members {
-            let made = self.visit(alloc, member, sign, true)?;
+        for (i, member) in members.iter().enumerate() {
+            let made = self.visit(alloc, member, &parts[i], sign, true)?;
             all = join(alloc, all, made)?;
         }
         Ok(all)
@@ -120,47 +159,72 @@ impl Conversion {
         universal: bool,
         variables: &[Variable],
         body: &Formula,
+        measured: &Measured,
         sign: bool,
     ) -> Result<Clauses, AllocError>
+        requires { measured.now ≡ measures body.now }
         ensures clauses { IfOk result (λ cs. cs.items ≡ (spec.quantified universal variables.now (spec.cnf body.now) sign self.old.scope (length self.old.symbols)).clauses) }
         ensures symbols { OnOk result (self.new.symbols ≡ self.old.symbols ++ (spec.quantified universal variables.now (spec.cnf body.now) sign self.old.scope (length self.old.symbols)).symbols) }
         ensures scope { OnOk result (self.new.scope ≡ self.old.scope) }
     {
         let depth = self.scope.depth();
         self.enter(alloc, universal, variables)?;
-        let clauses = self.visit(alloc, body, sign, true)?;
+        let clauses = self.visit(alloc, body, measured, sign, true)?;
         self.scope.leave_to(depth);
         Ok(clauses)
     }
 
     /// Adds the Skolem symbols of a formula with a sign.
     #[cycle(note)]
-    fn note(&mut self, alloc: Global, formula: &Formula, sign: bool) -> Result<(), AllocError>
+    fn note(
+        &mut self,
+        alloc: Global,
+        formula: &Formula,
+        measured: &Measured,
+        sign: bool,
+    ) -> Result<(), AllocError>
+        requires { measured.now ≡ measures formula.now }
         ensures symbols { OnOk result (self.new.symbols ≡ self.old.symbols ++ (spec.cnf formula.now sign self.old.scope (length self.old.symbols)).symbols) }
         ensures scope { OnOk result (self.new.scope ≡ self.old.scope) }
     {
-        if !has_quantifier(formula) {
+        if !measured.quantified {
             return Ok(());
         }
+        let parts = measured.parts.as_slice();
         match formula {
-            Formula::Not(f) => self.note(alloc, f.get(), !sign),
-            Formula::And(fs) | Formula::Or(fs) => self.note_members(alloc, fs.as_slice(), sign),
+            Formula::Not(f) => self.note(alloc, f.get(), &parts[0], !sign),
+            Formula::And(fs) | Formula::Or(fs) => self.note_members(
+                alloc,
+                fs.as_slice(),
+                parts,
+                sign,
+            ),
             Formula::Implies(f, g) => {
-                self.note(alloc, f.get(), !sign)?;
-                self.note(alloc, g.get(), sign)
+                self.note(alloc, f.get(), &parts[0], !sign)?;
+                self.note(alloc, g.get(), &parts[1], sign)
             }
             Formula::Iff(f, g) => {
-                self.note(alloc, f.get(), !sign)?;
-                self.note(alloc, g.get(), sign)?;
-                self.note(alloc, g.get(), !sign)?;
-                self.note(alloc, f.get(), sign)
+                let (f, g) = (f.get(), g.get());
+                let (m, n) = (&parts[0], &parts[1]);
+                self.note(alloc, f, m, !sign)?;
+                self.note(alloc, g, n, sign)?;
+                self.note(alloc, g, n, !sign)?;
+                self.note(alloc, f, m, sign)
             }
-            Formula::All(vs, f) => self.note_quantified(alloc, sign, vs.as_slice(), f.get(), sign),
+            Formula::All(vs, f) => self.note_quantified(
+                alloc,
+                sign,
+                vs.as_slice(),
+                f.get(),
+                &parts[0],
+                sign,
+            ),
             Formula::Some(vs, f) => self.note_quantified(
                 alloc,
                 !sign,
                 vs.as_slice(),
                 f.get(),
+                &parts[0],
                 sign,
             ),
             _ => Ok(()),
@@ -173,13 +237,15 @@ impl Conversion {
         &mut self,
         alloc: Global,
         members: &[Formula],
+        parts: &[Measured],
         sign: bool,
     ) -> Result<(), AllocError>
+        requires { parts.now ≡ map measures members.now }
         ensures symbols { OnOk result (self.new.symbols ≡ self.old.symbols ++ spec.all_symbols (spec.visit (map spec.cnf members.now) sign self.old.scope (length self.old.symbols))) }
         ensures scope { OnOk result (self.new.scope ≡ self.old.scope) }
     {
-        for member in members {
-            self.note(alloc, member, sign)?;
+        for (i, member) in members.iter().enumerate() {
+            self.note(alloc, member, &parts[i], sign)?;
         }
         Ok(())
     }
@@ -192,14 +258,16 @@ impl Conversion {
         universal: bool,
         variables: &[Variable],
         body: &Formula,
+        measured: &Measured,
         sign: bool,
     ) -> Result<(), AllocError>
+        requires { measured.now ≡ measures body.now }
         ensures symbols { OnOk result (self.new.symbols ≡ self.old.symbols ++ (spec.quantified universal variables.now (spec.cnf body.now) sign self.old.scope (length self.old.symbols)).symbols) }
         ensures scope { OnOk result (self.new.scope ≡ self.old.scope) }
     {
         let depth = self.scope.depth();
         self.enter(alloc, universal, variables)?;
-        self.note(alloc, body, sign)?;
+        self.note(alloc, body, measured, sign)?;
         self.scope.leave_to(depth);
         Ok(())
     }
@@ -237,30 +305,4 @@ fn add_skolem_symbols(
         symbols.push(symbol)?;
     }
     Ok(())
-}
-
-/// Whether a quantifier is in the formula.
-fn has_quantifier(formula: &Formula) -> bool
-    ensures { result ≡ is_quantified formula.now }
-{
-    match formula {
-        Formula::True
-        | Formula::False
-        | Formula::Atom(_)
-        | Formula::Same(_, _)
-        | Formula::Less(_, _)
-        | Formula::LessEq(_, _) => false,
-        Formula::Not(f) => has_quantifier(f.get()),
-        Formula::And(fs) | Formula::Or(fs) => {
-            for member in fs.as_slice() {
-                if has_quantifier(member) {
-                    return true;
-                }
-            }
-            false
-        }
-        Formula::Implies(f, g) | Formula::Iff(f, g) => has_quantifier(f.get())
-            || has_quantifier(g.get()),
-        Formula::All(_, _) | Formula::Some(_, _) => true,
-    }
 }

@@ -1,7 +1,7 @@
 //! The number of a problem's clauses.
 
 ghost use Rattle.std.specs.Prelude.{◌≡◌, ◌+◌, ◌*◌, map, sum, true, false, cond};
-ghost use Rattle.normal_form.specs.Count.{implication, number, product, saturated};
+ghost use Rattle.normal_form.specs.Count.{number, product, saturated};
 ghost use Rattle.normal_form.specs.Clauses.{count_of};
 
 use formula_base::{Formula, Problem};
@@ -15,7 +15,7 @@ pub(crate) struct Counts {
 
 impl Counts {
     /// Those of the formula that always holds.
-    fn always() -> Counts
+    pub(crate) fn always() -> Counts
         ensures plus { result.plus ≡ 0 }
         ensures minus { result.minus ≡ 1 }
     {
@@ -23,7 +23,7 @@ impl Counts {
     }
 
     /// Those of an atom.
-    fn atom() -> Counts
+    pub(crate) fn atom() -> Counts
         ensures plus { result.plus ≡ 1 }
         ensures minus { result.minus ≡ 1 }
     {
@@ -31,7 +31,7 @@ impl Counts {
     }
 
     /// Those of the negation.
-    fn negated(self) -> Counts
+    pub(crate) fn negated(self) -> Counts
         ensures plus { result.plus ≡ self.minus }
         ensures minus { result.minus ≡ self.plus }
     {
@@ -42,7 +42,7 @@ impl Counts {
     }
 
     /// Those of a conjunction of two formulas: lists one after the other, or joined pairwise.
-    fn and(self, other: Counts) -> Counts
+    pub(crate) fn and(self, other: Counts) -> Counts
         ensures plus { result.plus ≡ saturated (self.plus + other.plus) }
         ensures minus { result.minus ≡ saturated (self.minus * other.minus) }
     {
@@ -53,7 +53,7 @@ impl Counts {
     }
 
     /// Those of a disjunction of two formulas.
-    fn or(self, other: Counts) -> Counts
+    pub(crate) fn or(self, other: Counts) -> Counts
         ensures plus { result.plus ≡ saturated (self.plus * other.plus) }
         ensures minus { result.minus ≡ saturated (self.minus + other.minus) }
     {
@@ -61,6 +61,14 @@ impl Counts {
             plus: self.plus.saturating_mul(other.plus),
             minus: self.minus.saturating_add(other.minus),
         }
+    }
+
+    /// Those of an implication of two formulas.
+    pub(crate) fn implies(self, other: Counts) -> Counts
+        ensures plus { result.plus ≡ saturated (self.minus * other.plus) }
+        ensures minus { result.minus ≡ saturated (self.plus + other.minus) }
+    {
+        self.negated().or(other)
     }
 
     /// That for a sign.
@@ -124,19 +132,11 @@ fn disjunction_counts(members: &[Formula]) -> Counts
     all
 }
 
-/// How many clauses an implication gives for each sign.
-fn implication_counts(from: &Formula, to: &Formula) -> Counts
-    ensures plus { result.plus ≡ saturated (number from.now false * number to.now true) }
-    ensures minus { result.minus ≡ saturated (number from.now true + number to.now false) }
+/// Whether an implication between formulas with these counts gives a clause for a sign.
+pub(crate) fn may_give_clauses(from: Counts, to: Counts, sign: bool) -> bool
+    ensures { result ≡ false → cond sign (from.minus * to.plus) (from.plus + to.minus) ≡ 0 }
 {
-    counts_of(from).negated().or(counts_of(to))
-}
-
-/// Whether an implication gives a clause for a sign.
-pub(crate) fn may_give_clauses(from: &Formula, to: &Formula, sign: bool) -> bool
-    ensures { result ≡ false → implication (number from.now) (number to.now) sign ≡ 0 }
-{
-    implication_counts(from, to).of(sign) != 0
+    from.implies(to).of(sign) != 0
 }
 
 /// The number of clauses of a problem, or 2^64 - 1 where it is at least that.

@@ -3,17 +3,13 @@
 ghost use Rattle.std.specs.Prelude.{◌≡◌, ◌++◌, map, OnOk, IfOk, if◌then◌else◌};
 ghost use Rattle.normal_form.specs.Cnf.{join};
 
-use sqlite_items::Items;
+use crate::disjunctions::Disjunction;
+use crate::literals::Clauses;
 use std::alloc::{AllocError, Global};
-use term_base::Literal;
 
 /// Each clause of the first list with each of the second; the first runs slowest. Where the first list has one clause,
 /// the literals of the second are moved, and not copied.
-pub(crate) fn join(
-    alloc: Global,
-    left: Vec<Items<Literal>>,
-    right: Vec<Items<Literal>>,
-) -> Result<Vec<Items<Literal>>, AllocError>
+pub(crate) fn join(alloc: Global, left: Clauses, right: Clauses) -> Result<Clauses, AllocError>
     ensures { IfOk result (λ all. all.items ≡ join left.items right.items) }
 {
     let mut left = left;
@@ -26,32 +22,35 @@ pub(crate) fn join(
     }
 }
 
-/// A clause with each of a list behind it. The clause is copied.
-fn join_before(
-    alloc: Global,
-    clause: Items<Literal>,
-    right: Vec<Items<Literal>>,
-) -> Result<Vec<Items<Literal>>, AllocError>
+/// A clause with each of a list behind it. The clause is copied for all but the last.
+fn join_before(alloc: Global, clause: Disjunction, right: Clauses) -> Result<Clauses, AllocError>
     ensures { IfOk result (λ all. all.items ≡ map (λ more. clause ++ more) right.items) }
 {
     if clause.is_empty() {
         return Ok(right);
     }
+    let mut right = right;
+    let Some(last) = right.pop() else {
+        return Ok(right);
+    };
+    let mut all = copies_before(alloc, &clause, right)?;
+    all.push(clause.followed_by(last)?)?;
+    Ok(all)
+}
+
+/// Copies of a clause with each of a list behind it.
+fn copies_before(alloc: Global, clause: &Disjunction, right: Clauses) -> Result<Clauses, AllocError>
+    ensures { IfOk result (λ all. all.items ≡ map (λ more. clause.now ++ more) right.items) }
+{
     let mut all = Vec::new(alloc);
     for more in right {
-        let mut one = copy_literals(alloc, clause.as_slice())?;
-        one.append(more)?;
-        all.push(one)?;
+        all.push(clause.copy(alloc)?.followed_by(more)?)?;
     }
     Ok(all)
 }
 
 /// Each clause of the first list with copies of each of the second; the first runs slowest.
-fn join_each(
-    alloc: Global,
-    left: Vec<Items<Literal>>,
-    right: &[Items<Literal>],
-) -> Result<Vec<Items<Literal>>, AllocError>
+fn join_each(alloc: Global, left: Clauses, right: &[Disjunction]) -> Result<Clauses, AllocError>
     ensures { IfOk result (λ all. all.items ≡ join left.items right.now) }
 {
     let mut all = Vec::new(alloc);
@@ -65,9 +64,9 @@ fn join_each(
 pub(crate) fn disjoined(
     alloc: Global,
     joined: bool,
-    left: Vec<Items<Literal>>,
-    right: Vec<Items<Literal>>,
-) -> Result<Vec<Items<Literal>>, AllocError>
+    left: Clauses,
+    right: Clauses,
+) -> Result<Clauses, AllocError>
     ensures { IfOk result (λ all. all.items ≡ (if joined then join left.items right.items else left.items ++ right.items)) }
 {
     let mut left = left;
@@ -82,9 +81,9 @@ pub(crate) fn disjoined(
 /// Adds a clause with each of a list. The clause is copied for all but the last.
 fn join_one(
     alloc: Global,
-    clause: Items<Literal>,
-    right: &[Items<Literal>],
-    all: &mut Vec<Items<Literal>>,
+    clause: Disjunction,
+    right: &[Disjunction],
+    all: &mut Clauses,
 ) -> Result<(), AllocError>
     ensures { OnOk result (all.new.items ≡ all.old.items ++ map (λ more. clause ++ more) right.now) }
 {
@@ -92,35 +91,8 @@ fn join_one(
         return Ok(());
     };
     for more in others {
-        let copy = extended(
-            alloc,
-            copy_literals(alloc, clause.as_slice())?,
-            more.as_slice(),
-        )?;
-        all.push(copy)?;
+        all.push(clause.copy(alloc)?.with_copies(alloc, more)?)?;
     }
-    all.push(extended(alloc, clause, last.as_slice())?)?;
+    all.push(clause.with_copies(alloc, last)?)?;
     Ok(())
-}
-
-/// A clause with copies of more literals behind its own.
-fn extended(
-    alloc: Global,
-    clause: Items<Literal>,
-    more: &[Literal],
-) -> Result<Items<Literal>, AllocError>
-    ensures { IfOk result (λ all. all ≡ clause ++ more.now) }
-{
-    let mut all = clause;
-    for literal in more {
-        all.push(literal.copy(alloc)?)?;
-    }
-    Ok(all)
-}
-
-/// A list of literals that equals these.
-fn copy_literals(alloc: Global, literals: &[Literal]) -> Result<Items<Literal>, AllocError>
-    ensures { IfOk result (λ all. all ≡ literals.now) }
-{
-    extended(alloc, Items::new(alloc), literals)
 }

@@ -4,10 +4,12 @@
 mod binders;
 mod conversion;
 mod counting;
+mod disjunctions;
 mod joins;
 mod laws;
 mod literals;
 mod lookup;
+mod measuring;
 mod numbering;
 mod preparing;
 mod scopes;

@@ -4,12 +4,12 @@ ghost use Rattle.std.specs.Prelude.{◌≡◌, [], ◌∷◌, IfOk};
 ghost use Rattle.normal_form.specs.Cnf as spec;
 
 use crate::binders::Binders;
-use sqlite_items::Items;
+use crate::disjunctions::Disjunction;
 use std::alloc::{AllocError, Global};
 use term_base::{Literal, Term};
 
 /// A list of clauses as lists of their literals.
-pub(crate) type Clauses = Vec<Items<Literal>>;
+pub(crate) type Clauses = Vec<Disjunction>;
 
 /// A predicate, or its negation.
 pub(crate) fn atom(
@@ -89,7 +89,7 @@ pub(crate) fn less_eq(
 pub(crate) fn unit(alloc: Global, literal: Literal) -> Result<Clauses, AllocError>
     ensures { IfOk result (λ cs. cs.items ≡ (literal ∷ []) ∷ []) }
 {
-    let mut clause = Items::new(alloc);
+    let mut clause = Disjunction::empty(alloc);
     clause.push(literal)?;
     let mut clauses = Vec::new(alloc);
     clauses.push(clause)?;
@@ -102,7 +102,7 @@ pub(crate) fn always(alloc: Global, sign: bool) -> Result<Clauses, AllocError>
 {
     let mut clauses = Vec::new(alloc);
     if !sign {
-        clauses.push(Items::new(alloc))?;
+        clauses.push(Disjunction::empty(alloc))?;
     }
     Ok(clauses)
 }

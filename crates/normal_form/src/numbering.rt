@@ -4,6 +4,7 @@ ghost use Rattle.std.specs.Prelude.{◌≡◌, map, fold, IfOk, OnOk};
 ghost use Rattle.std.specs.List.{list_any};
 ghost use Rattle.normal_form.specs.Numbering as spec;
 
+use crate::literals::Clauses;
 use indexmap::IndexSet;
 use sqlite_items::Items;
 use std::alloc::{AllocError, Global};
@@ -14,12 +15,13 @@ pub(crate) fn numbered_all(
     alloc: Global,
     symbols: &[Symbol],
     ordinary: bool,
-    clauses: &[Items<Literal>],
+    clauses: Clauses,
 ) -> Result<Items<Clause>, AllocError>
-    ensures { IfOk result (λ all. all ≡ map (spec.numbered symbols.now ordinary) clauses.now) }
+    ensures { IfOk result (λ all. all ≡ map (spec.numbered symbols.now ordinary) clauses.items) }
 {
     let mut all = Items::new(alloc);
-    for literals in clauses {
+    for clause in clauses {
+        let literals = clause.into_items();
         all.push(numbered(alloc, symbols, ordinary, literals.as_slice())?)?;
     }
     Ok(all)

@@ -59,12 +59,7 @@ pub fn clauses(alloc: Global, problem: &Problem, ordinary: bool) -> Result<Prepa
     }
     let converted = convert(alloc, problem)?;
     let symbols = converted.symbols;
-    let clauses = numbered_all(
-        alloc,
-        symbols.as_slice(),
-        ordinary,
-        converted.clauses.as_slice(),
-    )?;
+    let clauses = numbered_all(alloc, symbols.as_slice(), ordinary, converted.clauses)?;
     Ok(Prepared { symbols, clauses })
 }
 
@@ -86,11 +81,11 @@ fn convert(alloc: Global, problem: &Problem) -> Result<Converted, AllocError>
     };
     let mut clauses = Vec::new(alloc);
     for premise in problem.premises.as_slice() {
-        let mut made = conversion.visit(alloc, premise, true, true)?;
+        let mut made = conversion.convert(alloc, premise, true)?;
         clauses.append(&mut made)?;
     }
     if let Some(conjecture) = &problem.conjecture {
-        let mut made = conversion.visit(alloc, conjecture, false, true)?;
+        let mut made = conversion.convert(alloc, conjecture, false)?;
         clauses.append(&mut made)?;
     }
     Ok(Converted {

@@ -1,6 +1,6 @@
-use Rattle.std.proofs.Common.{◌≡◌, map, take}
+use Rattle.std.proofs.Common.{◌≡◌, map}
 use Rattle.normal_form.specs.Numbering.{numbered}
 use Rattle.normal_form.proofs.numbering.numbered_all.Given as goal
 
-abbrev pub invariant-loop-literals : goal.invariant-loop-literals
-invariant-loop-literals l = l.all ≡ map (numbered l.symbols l.ordinary) (take l.literals-index l.clauses)
+abbrev pub invariant-loop-clause : goal.invariant-loop-clause
+invariant-loop-clause l = l.all ≡ map (numbered l.symbols l.ordinary) l.yielded

@@ -2,9 +2,9 @@ use Rattle.std.proofs.Common.{◌≡◌, ◌++◌, length, map, drop, fold}
 use Rattle.normal_form.specs.Cnf.{cnf, visit, all_symbols, appended, joined, join}
 use Rattle.normal_form.proofs.conversion.Conversion.+visit.Given as goal
 
-abbrev pub invariant-appended-loop-member : goal.invariant-appended-loop-member
-invariant-appended-loop-member l =
-    let rest = visit (map cnf (drop l.member-index l.members)) l.sign l.initial.self.scope (length l.self.symbols) in
+abbrev pub invariant-appended-loop-i : goal.invariant-appended-loop-i
+invariant-appended-loop-i l =
+    let rest = visit (map cnf (drop l.i l.members)) l.sign l.initial.self.scope (length l.self.symbols) in
     let whole = visit (map cnf l.members) l.sign l.initial.self.scope (length l.initial.self.symbols) in
     record {
       clauses : l.all.items ++ appended (map (λ m. m.clauses) rest) ≡ appended (map (λ m. m.clauses) whole);
@@ -12,9 +12,9 @@ invariant-appended-loop-member l =
       scope : l.self.scope ≡ l.initial.self.scope;
     }
 
-abbrev pub invariant-joined-loop-member : goal.invariant-joined-loop-member
-invariant-joined-loop-member l =
-    let rest = visit (map cnf (drop l.member-index l.members)) l.sign l.initial.self.scope (length l.self.symbols) in
+abbrev pub invariant-joined-loop-i : goal.invariant-joined-loop-i
+invariant-joined-loop-i l =
+    let rest = visit (map cnf (drop l.i l.members)) l.sign l.initial.self.scope (length l.self.symbols) in
     let whole = visit (map cnf l.members) l.sign l.initial.self.scope (length l.initial.self.symbols) in
     record {
       clauses : fold join l.all.items (map (λ m. m.clauses) rest) ≡ joined (map (λ m. m.clauses) whole);

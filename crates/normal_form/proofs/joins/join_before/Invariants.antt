@@ -1,5 +1,0 @@
-use Rattle.std.proofs.Common.{◌≡◌, ◌++◌, map}
-use Rattle.normal_form.proofs.joins.join_before.Given as goal
-
-abbrev pub invariant-loop-more : goal.invariant-loop-more
-invariant-loop-more l = l.all.items ≡ map (λ more. l.fn.clause ++ more) l.yielded
