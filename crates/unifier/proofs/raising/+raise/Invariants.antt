@@ -1,0 +1,8 @@
+use Rattle.std.proofs.Common.{◌≡◌, map, take}
+use Rattle.term_base.specs.Substitution.{put_in}
+use Rattle.term_base.specs.Trees.{tree, var}
+use Rattle.unifier.specs.Naming.{raised}
+use Rattle.unifier.proofs.raising.+raise.Given as goal
+
+abbrev pub invariant-loop-arg : goal.invariant-loop-arg
+invariant-loop-arg l = map tree l.all ≡ map (λ t. put_in (λ v. var (raised l.base v)) (tree t)) (take l.arg-index l.arg-items)
