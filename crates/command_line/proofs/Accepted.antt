@@ -199,7 +199,7 @@ all_read c m e p = record {
       (record { help = refl; version = refl }) (λ empty. cc);
   turns = number_passes c m e p (codes "turns") 1 1000000 (other, ((λ h. refl), (other, (other, (other, (other, tt))))))
       (record { help = refl; version = refl }) (λ empty. cc);
-  judge_steps = number_passes c m e p (codes "judge-steps") 1 4294967295 (other, (other, ((λ h. refl), (other, (other, (other, tt))))))
+  judge_steps = number_passes c m e p (codes "judge-steps") 1 4294967296 (other, (other, ((λ h. refl), (other, (other, (other, tt))))))
       (record { help = refl; version = refl }) (λ empty. cc);
   make = number_passes c m e p (codes "make") 0 4294967295 (other, (other, (other, (other, (other, ((λ h. refl), tt))))))
       (record { help = refl; version = refl }) (λ empty. cc);

@@ -1,9 +1,9 @@
 -- The command and its six arguments, in the words of the library that reads them.
-use Rattle.std.specs.Prelude.{ℕ, ◌≤◌, Bool, true, false, not, ◌&&◌, ◌||◌, List, [], ◌∷◌, codes, Option, Some, is_some, option_map, unwrap_or, if◌then◌else◌}
+use Rattle.std.specs.Prelude.{ℕ, ◌≤◌, nat_eq, Bool, true, false, not, ◌&&◌, ◌||◌, List, [], ◌∷◌, codes, Option, Some, is_some, option_map, unwrap_or, if◌then◌else◌}
 use Rattle.std.specs.Option.{option_map_or}
 use Rattle.std.specs.Str.{bytes_eq}
 use Rattle.std.specs.Str.Parse.{digits_value, without_leading_plus}
-use Rattle.clap.specs.Walk.{Row, Rule, Text, is_empty, one_of}
+use Rattle.clap.specs.Walk.{Row, Rule, Text, first_of, is_empty, one_of}
 use Rattle.clap.specs.Simple.{App, matches_of, new_rule, new_shape}
 use Rattle.clap.specs.Faults.{fault_of}
 use Rattle.clap.specs.declared.builder.action.ArgAction.TheVariants.{Set, SetTrue}
@@ -24,7 +24,7 @@ flag_rule name = record (new_rule name) { long = Some name; action = Some SetTru
 -- the six arguments
 abbrev pub rules : List Rule
 rules =
-    number_rule (codes "workers") 1 8 ∷ number_rule (codes "turns") 1 1000000 ∷ number_rule (codes "judge-steps") 1 4294967295
+    number_rule (codes "workers") 1 8 ∷ number_rule (codes "turns") 1 1000000 ∷ number_rule (codes "judge-steps") 1 4294967296
     ∷ flag_rule (codes "ordinary") ∷ flag_rule (codes "check") ∷ number_rule (codes "make") 0 4294967295 ∷ []
 
 -- the command, whose words don't begin with its name
@@ -71,9 +71,26 @@ options_of words = options_in (matches_of command words)
 abbrev pub asks_both : List Row → Bool
 asks_both rows = is_set (codes "check") rows && is_some (number_of (codes "make") rows)
 
--- the command refuses the words, for help too, or they ask for both jobs
+-- the text has no plus sign in front, and no zero in front of other digits
+abbrev pub is_plain : Text → Bool
+is_plain [] = true
+is_plain (b ∷ bs) = not (nat_eq b 43) && (not (nat_eq b 48) || is_empty bs)
+
+-- the value of an option, where it is there, is plain
+abbrev pub is_plain_at : Text → List Row → Bool
+is_plain_at name rows = option_map_or is_plain (first_of name rows) true
+
+-- the values of the four options with a number are plain
+abbrev pub are_plain : List Row → Bool
+are_plain rows =
+    is_plain_at (codes "workers") rows && (is_plain_at (codes "turns") rows
+    && (is_plain_at (codes "judge-steps") rows && is_plain_at (codes "make") rows))
+
+-- the command refuses the words, for help too, or they ask for both jobs, or a number isn't plain
 abbrev pub is_usage : List Text → Bool
-is_usage words = not (is_empty (fault_of command words)) || asks_both (matches_of command words)
+is_usage words =
+    not (is_empty (fault_of command words))
+    || (asks_both (matches_of command words) || not (are_plain (matches_of command words)))
 
 -- ---- ranges
 -- the number lies between these two
@@ -82,4 +99,4 @@ IsBetween low high n = (low ≤ n) × (n ≤ high)
 
 -- each number of the options lies in its range
 abbrev pub AreInRange : Options → Type 0
-AreInRange o = IsBetween 1 8 o.workers × IsBetween 1 1000000 o.turns × IsBetween 1 4294967295 o.judge_steps
+AreInRange o = IsBetween 1 8 o.workers × IsBetween 1 1000000 o.turns × IsBetween 1 4294967296 o.judge_steps

@@ -12,5 +12,5 @@ has_number low high name rows = option_map_or (is_unsigned_in low high) (one_of 
 pub record AreRead (rows : List Row) : Type 0 where
   pub workers : has_number 1 8 (codes "workers") rows ≡ true
   pub turns : has_number 1 1000000 (codes "turns") rows ≡ true
-  pub judge_steps : has_number 1 4294967295 (codes "judge-steps") rows ≡ true
+  pub judge_steps : has_number 1 4294967296 (codes "judge-steps") rows ≡ true
   pub make : has_number 0 4294967295 (codes "make") rows ≡ true

@@ -7,6 +7,7 @@ ghost use Rattle.clap.specs.Faults.{fault_of};
 ghost use Rattle.clap.specs.Matches.{found_of};
 ghost use Rattle.command_line.specs.Command.{command, number_rule, flag_rule, is_usage, options_of, AreInRange};
 ghost use Rattle.command_line.specs.Command.{asks_both, options_in, mode_of, is_set, number_of};
+ghost use Rattle.command_line.specs.Command.{are_plain, is_plain, is_plain_at};
 ghost use Rattle.command_line.specs.Matches.{has_number, AreRead};
 
 use crate::options::{Mode, Options};
@@ -50,7 +51,7 @@ fn command<'a>(alloc: Global) -> Result<Command<'a>, AllocError>
         .no_binary_name(true)
         .arg(number(alloc, "workers", 1, 8))?
         .arg(number(alloc, "turns", 1, 1_000_000))?
-        .arg(number(alloc, "judge-steps", 1, 4_294_967_295))?
+        .arg(number(alloc, "judge-steps", 1, 4_294_967_296))?
         .arg(flag(alloc, "ordinary"))?
         .arg(flag(alloc, "check"))?
         .arg(number(alloc, "make", 0, 4_294_967_295))
@@ -103,10 +104,41 @@ fn options_in(matches: &ArgMatches) -> Options
     Options {
         workers: number_of(matches, "workers", 1, 8).unwrap_or(2) as u32,
         turns: number_of(matches, "turns", 1, 1_000_000).unwrap_or(5000) as u32,
-        judge_steps: number_of(matches, "judge-steps", 1, 4_294_967_295).unwrap_or(200_000),
+        judge_steps: number_of(matches, "judge-steps", 1, 4_294_967_296).unwrap_or(200_000),
         ordinary: is_set(matches, "ordinary"),
         mode: mode_of(matches),
     }
+}
+
+// Whether the text has no plus sign in front, and no zero in front of other digits.
+fn is_plain(text: &str) -> bool
+    ensures { result ≡ is_plain text.now }
+{
+    match text.as_bytes() {
+        [b'+', ..] => false,
+        [b'0', rest @ ..] => rest.is_empty(),
+        _ => true,
+    }
+}
+
+// Whether the value of an option, where it is there, is plain.
+fn is_plain_at(matches: &ArgMatches, name: &str) -> bool
+    ensures { result ≡ is_plain_at name.now (rows_of (found_of matches.now)) }
+{
+    match matches.get_str(name) {
+        Some(text) => is_plain(text),
+        None => true,
+    }
+}
+
+// Whether the values of the options with a number are plain.
+fn are_plain(matches: &ArgMatches) -> bool
+    ensures { result ≡ are_plain (rows_of (found_of matches.now)) }
+{
+    is_plain_at(matches, "workers")
+        && is_plain_at(matches, "turns")
+        && is_plain_at(matches, "judge-steps")
+        && is_plain_at(matches, "make")
 }
 
 // The matches of the words, or why there are none.
@@ -129,15 +161,17 @@ fn matches_of<'a>(alloc: Global, words: &'a [String]) -> Result<ArgMatches<'a>, 
 /// The options that the words of a command line give, the program's name left out.
 ///
 /// Each number is that of its option, or else its default: 2 workers, 5,000 turns, 200,000 steps of a judge.
-/// `Usage` comes exactly where the words are refused by the command of six arguments, a wish for help among them,
-/// or `--check` stands beside `--make`; `Memory` only where memory ran out.
+/// `Usage` comes exactly where the words are refused by the command of six arguments, a wish for help among them, or
+/// `--check` stands beside `--make`, or a number has a plus sign or a needless zero in front; `Memory` only where
+/// memory ran out.
 pub fn options_of(alloc: Global, words: &[String]) -> Result<Options, WordsFault>
-    ensures given { IfOk result (λ o. (is_usage (map string_bytes words.now) ≡ false) × (o ≡ options_of (map string_bytes words.now))) }
+    ensures accepted { IfOk result (λ _. is_usage (map string_bytes words.now) ≡ false) }
+    ensures given { IfOk result (λ o. o ≡ options_of (map string_bytes words.now)) }
     ensures ranges { IfOk result AreInRange }
     ensures usage { result ≡ Err WordsFault.Usage → is_usage (map string_bytes words.now) ≡ true }
 {
     let matches = matches_of(alloc, words)?;
-    if asks_both(&matches) {
+    if asks_both(&matches) || !are_plain(&matches) {
         return Err(WordsFault::Usage);
     }
     Ok(options_in(&matches))

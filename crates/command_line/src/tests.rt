@@ -26,11 +26,11 @@ fn given(rt: HostRuntime) -> Result<(), Fail> {
     assert_eq!(rt; options_of(alloc, &Vec::new(alloc)), Ok(DEFAULTS));
     let rows = [
         (
-            "--workers 8 --turns 1000000 --judge-steps 4294967295",
+            "--workers 8 --turns 1000000 --judge-steps 4294967296",
             Options {
                 workers: 8,
                 turns: 1_000_000,
-                judge_steps: 4_294_967_295,
+                judge_steps: 4_294_967_296,
                 ..DEFAULTS
             },
         ),
@@ -120,10 +120,17 @@ fn refused_numbers(rt: HostRuntime) -> Result<(), Fail> {
         "--turns 0",
         "--turns 1000001",
         "--judge-steps 0",
-        "--judge-steps 4294967296",
+        "--judge-steps 4294967297",
         "--make 4294967296",
     ];
     assert!(rt; are_refused(alloc, outside.as_slice())?);
+    let spelled = [
+        "--workers +5",
+        "--turns 05",
+        "--make=00",
+        "--judge-steps=+1",
+    ];
+    assert!(rt; are_refused(alloc, spelled.as_slice())?);
     let both = ["--check --make 1", "--make 1 --check"];
     assert!(rt; are_refused(alloc, both.as_slice())?);
     Ok(())

@@ -14,7 +14,7 @@ abbrev two : App
 two = with_rule one (number_rule (codes "turns") 1 1000000)
 
 abbrev three : App
-three = with_rule two (number_rule (codes "judge-steps") 1 4294967295)
+three = with_rule two (number_rule (codes "judge-steps") 1 4294967296)
 
 abbrev four : App
 four = with_rule three (flag_rule (codes "ordinary"))
