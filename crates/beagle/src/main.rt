@@ -13,7 +13,7 @@ use std::process::ExitCode;
 use std::rt::Env;
 
 // The words on the command line, the program's name first. Where they are no text, an empty word stands for them behind
-// an empty name: like every word, it is refused as wrong usage.
+// an empty name, which is refused as wrong usage.
 fn words(rt: &(impl Env + AllocGlobal)) -> Result<Vec<String>, AllocError> {
     let alloc = rt.alloc();
     match env::args(rt) {

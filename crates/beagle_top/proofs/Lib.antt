@@ -1,8 +1,5 @@
-pub mod Runs
-pub mod Numerals
-pub mod Cuts
-pub mod Statements
-pub mod Files
 pub mod Closing
 pub mod OneAnswer
-mod Worked
+pub mod StatusLemmas
+pub mod SectionLemmas
+pub mod RowLemmas

@@ -1,44 +1,79 @@
--- One reading and one answer for given bytes.
-use Rattle.std.proofs.Common.{◌≡◌, ℕ, List, [], ◌∷◌, Option, Some, None, inl, inr, refl, sym, ap, subst, ◌∙◌, arith}
-use Rattle.beagle_top.specs.declared.comparisons.Comparison.{Comparison}
-use Rattle.beagle_top.specs.FirstForm.{IsFile, NoneFalse, first_false_from}
-use Rattle.beagle_top.specs.Texts.{certificate_text, refutation_by}
+-- At most one status and one text are due.
+use Rattle.std.proofs.Common.{◌≡◌, ◌⊎◌, ◌<◌, ◌≤◌, ◌∙◌, ℕ, Bool, List, [], ◌∷◌, Option, Some, None, length, refl, sym, ap, subst, inl, inr, arith}
+use Rattle.std.specs.Prelude.{is_some}
+use Rattle.command_line.specs.declared.options.Options.{Options}
+use Rattle.formula_base.specs.declared.problems.Problem.{Problem}
+use Rattle.tff_reader.specs.declared.refusals.Refused.{Refused}
+use Rattle.tff_reader.specs.Answer.{IsProblem, IsRefused}
+use Rattle.normal_form.specs.Clauses.{count_of}
+use Rattle.normal_form.specs.Count.{saturated}
+use Rattle.beagle_top.specs.declared.first_clauses.FirstClause.{FirstClause}
+use Rattle.beagle_top.specs.FirstClauses.{first_false}
+use Rattle.beagle_top.specs.Texts.{certificate_text, refutation, refused, saturated_list, steps_by, too_many}
 use Rattle.beagle_top.specs.Pools.{closing}
-use Rattle.beagle_top.specs.Answer.{Refutes, IsAnswer, IsDueFor}
-use Rattle.beagle_top.proofs.Statements.{statement_read, blank_no_statement}
-use Rattle.beagle_top.proofs.Files.{same_statement}
+use Rattle.beagle_top.specs.Sections.{problem_bytes}
+use Rattle.beagle_top.specs.Answer.{Decides, IsAnswer, IsAnswerOf, IsDueFor, answered, consistent, decided, fault, many, refuted, unbuilt}
 
-pub one_file : (bytes : List ℕ) (cs ds : List Comparison) → IsFile cs bytes → IsFile ds bytes → cs ≡ ds
-one_file bytes [] [] h k = refl
-one_file bytes [] (d ∷ ds) h (rest, begins, k) = absurd (blank_no_statement d bytes rest h begins)
-one_file bytes (c ∷ cs) [] (rest, begins, h) k = absurd (blank_no_statement c bytes rest k begins)
-one_file bytes (c ∷ cs) (d ∷ ds) (rest, begins, h) (more, starts, k) =
-    let same = same_statement c d bytes rest more (statement_read c bytes rest begins) starts in
-    ap (λ x. x ∷ cs) (sym same.0) ∙ ap (λ xs. d ∷ xs) (one_file rest cs ds h (subst (IsFile ds) same.1 k))
+-- the same status and the same text
+abbrev Same : ℕ → ℕ → List ℕ → List ℕ → Type 0
+Same s t x y = (s ≡ t) × (x ≡ y)
 
-same_first : (bytes : List ℕ) (s t : ℕ) (x y : List ℕ) → Refutes bytes s x → Refutes bytes t y → (s ≡ t) × (x ≡ y)
-same_first bytes s t x y r q =
-    let cs = r.first_false in
-    let ds = q.first_false in
-    let same : ◌≡◌ {A = Option (ℕ × Comparison)} (Some (r.axiom_number, r.comparison)) (Some (q.axiom_number, q.comparison))
-    = sym cs.2 ∙ ap (first_false_from 0) (one_file bytes cs.0 ds.0 cs.1 ds.1) ∙ ds.2 in
-    let pair : ◌≡◌ {A = ℕ × Comparison} (r.axiom_number, r.comparison) (q.axiom_number, q.comparison) = cc in
-    (r.status_is ∙ sym q.status_is, r.text_is ∙ ap (λ p. refutation_by (certificate_text closing) p.0 p.1) pair ∙ sym q.text_is)
+one_decision : (ordinary has_conjecture : Bool) (cs : List FirstClause) (s t : ℕ) (x y : List ℕ)
+    → Decides ordinary has_conjecture cs s x → Decides ordinary has_conjecture cs t y → Same s t x y
+one_decision ordinary has_conjecture cs s t x y (refuted k c first i a d) (refuted l e other j b f) =
+    let same : ◌≡◌ {A = Option (ℕ × FirstClause)} (Some (k, c)) (Some (l, e)) = sym first ∙ other in
+    let pair : ◌≡◌ {A = ℕ × FirstClause} (k, c) (l, e) = cc in
+    (a ∙ sym b, d ∙ ap (λ (p : ℕ × FirstClause). refutation ordinary has_conjecture (steps_by (certificate_text closing) p.0 p.1)) pair ∙ sym f)
+one_decision ordinary has_conjecture cs s t x y (refuted k c first i a d) (consistent none all b f) =
+    let bad : ◌≡◌ {A = Option (ℕ × FirstClause)} (Some (k, c)) None = sym first ∙ none in
+    cc
+one_decision ordinary has_conjecture cs s t x y (consistent none all b f) (refuted k c first i a d) =
+    let bad : ◌≡◌ {A = Option (ℕ × FirstClause)} (Some (k, c)) None = sym first ∙ none in
+    cc
+one_decision ordinary has_conjecture cs s t x y (consistent none all a d) (consistent also every b f) = (a ∙ sym b, d ∙ sym f)
 
-not_both : (bytes : List ℕ) (s : ℕ) (x : List ℕ) → Refutes bytes s x → NoneFalse bytes → ⊥
-not_both bytes s x r none =
-    let cs = r.first_false in
-    let same : ◌≡◌ {A = Option (ℕ × Comparison)} None (Some (r.axiom_number, r.comparison)) = sym (none cs.0 cs.1) ∙ cs.2 in
+same_firsts : (o : Option (List FirstClause)) (cs ds : List FirstClause) → o ≡ Some cs → o ≡ Some ds → cs ≡ ds
+same_firsts o cs ds e f =
+    let same : ◌≡◌ {A = Option (List FirstClause)} (Some cs) (Some ds) = sym e ∙ f in
     cc
 
-one_within : (bytes : List ℕ) (s t : ℕ) (x y : List ℕ) → IsAnswer bytes s x → IsAnswer bytes t y → (s ≡ t) × (x ≡ y)
-one_within bytes s t x y (inl r) (inl q) = same_first bytes s t x y r q
-one_within bytes s t x y (inl r) (inr q) = absurd (not_both bytes s x r q.0)
-one_within bytes s t x y (inr r) (inl q) = absurd (not_both bytes t y q r.0)
-one_within bytes s t x y (inr r) (inr q) = (r.1.status_is ∙ sym q.1.status_is, r.1.text_is ∙ sym q.1.text_is)
+one_of_problem : (o : Options) (p : Problem) (s t : ℕ) (x y : List ℕ) → IsAnswerOf o p s x → IsAnswerOf o p t y → Same s t x y
+one_of_problem o p s t x y (many over a d) (many also b f) = (a ∙ sym b, d ∙ sym f)
+one_of_problem o p s t x y (many over a d) (unbuilt within why b f) = absurd (omega arith)
+one_of_problem o p s t x y (many over a d) (decided cs within mode is by) = absurd (omega arith)
+one_of_problem o p s t x y (unbuilt within why a d) (many over b f) = absurd (omega arith)
+one_of_problem o p s t x y (unbuilt within why a d) (unbuilt also how b f) = (a ∙ sym b, d ∙ sym f)
+one_of_problem o p s t x y (unbuilt within (inl other) a d) (decided cs also mode is by) = absurd (other mode)
+one_of_problem o p s t x y (unbuilt within (inr none) a d) (decided cs also mode is by) =
+    let bad : ◌≡◌ {A = Option (List FirstClause)} None (Some cs) = sym none ∙ is in
+    cc
+one_of_problem o p s t x y (decided cs within mode is by) (many over b f) = absurd (omega arith)
+one_of_problem o p s t x y (decided cs within mode is by) (unbuilt also (inl other) b f) = absurd (other mode)
+one_of_problem o p s t x y (decided cs within mode is by) (unbuilt also (inr none) b f) =
+    let bad : ◌≡◌ {A = Option (List FirstClause)} None (Some cs) = sym none ∙ is in
+    cc
+one_of_problem o p s t x y (decided cs within mode is by) (decided ds also too are how) =
+    let same = same_firsts _ ds cs are is in
+    one_decision o.ordinary (is_some p.conjecture) cs s t x y by (subst (λ (fs : List FirstClause). Decides o.ordinary (is_some p.conjecture) fs t y) same how)
 
-pub one_due : (bytes : List ℕ) (s t : ℕ) (x y : List ℕ) → IsDueFor bytes s x → IsDueFor bytes t y → (s ≡ t) × (x ≡ y)
-one_due bytes s t x y (inl r) (inl q) = (r.1.status_is ∙ sym q.1.status_is, r.1.text_is ∙ sym q.1.text_is)
-one_due bytes s t x y (inl r) (inr q) = absurd (omega (arith, r.0, q.0))
-one_due bytes s t x y (inr r) (inl q) = absurd (omega (arith, r.0, q.0))
-one_due bytes s t x y (inr r) (inr q) = one_within bytes s t x y r.1 q.1
+module _ (problem : (bytes : List ℕ) (p q : Problem) → IsProblem bytes p → IsProblem bytes q → p ≡ q)
+    (refusal : (bytes : List ℕ) (r s : Refused) → IsRefused bytes r → IsRefused bytes s → r ≡ s)
+    (apart : (bytes : List ℕ) (p : Problem) (r : Refused) → IsProblem bytes p → IsRefused bytes r → ⊥) where
+  one_answer : (o : Options) (bytes : List ℕ) (s t : ℕ) (x y : List ℕ) → IsAnswer o bytes s x → IsAnswer o bytes t y → Same s t x y
+  one_answer o bytes s t x y (fault r is a d) (fault q also b f) = (a ∙ sym b, d ∙ ap refused (refusal (problem_bytes o.mode bytes) r q is also) ∙ sym f)
+  one_answer o bytes s t x y (fault r is a d) (answered p also by) = absurd (apart (problem_bytes o.mode bytes) p r also is)
+  one_answer o bytes s t x y (answered p is by) (fault r also b f) = absurd (apart (problem_bytes o.mode bytes) p r is also)
+  one_answer o bytes s t x y (answered p is by) (answered q also how) =
+      one_of_problem o p s t x y by (subst (λ (z : Problem). IsAnswerOf o z t y) (problem (problem_bytes o.mode bytes) q p also is) how)
+
+  pub one_due : (o : Options) (bytes : List ℕ) (s t : ℕ) (x y : List ℕ) → IsDueFor o bytes s x → IsDueFor o bytes t y → Same s t x y
+  one_due o bytes s t x y (inl first) (inl second) = (first.1.status_is ∙ sym second.1.status_is, first.1.text_is ∙ sym second.1.text_is)
+  one_due o bytes s t x y (inl first) (inr second) =
+      let over = first.0 in
+      let within = second.0 in
+      absurd (omega arith)
+  one_due o bytes s t x y (inr first) (inl second) =
+      let within = first.0 in
+      let over = second.0 in
+      absurd (omega arith)
+  one_due o bytes s t x y (inr first) (inr second) = one_answer o bytes s t x y first.1 second.1

@@ -1,6 +1,6 @@
-pub mod Bytes
-pub mod FirstForm
-pub mod Reading
+pub mod FirstClauses
+pub mod Sections
 pub mod Texts
-pub mod Answer
 pub mod Pools
+pub mod Answer
+pub mod Rows

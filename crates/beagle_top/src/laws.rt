@@ -1,16 +1,26 @@
-//! What the definitions of files and answers imply.
+//! What the definition of answers implies.
 
 ghost use Rattle.std.specs.Prelude.{◌≡◌, ℕ, List};
-ghost use Rattle.beagle_top.specs.declared.comparisons.Comparison.{Comparison};
-ghost use Rattle.beagle_top.specs.FirstForm.{IsFile};
+ghost use Rattle.command_line.specs.declared.options.Options.{Options};
 ghost use Rattle.beagle_top.specs.Answer.{IsDueFor};
+ghost use Rattle.beagle_top.specs.Rows as rows;
 
-/// Bytes are a file of the first form in one way at most.
-pub fn one_reading()
-    ensures { (bytes : List ℕ) (cs ds : List Comparison) → IsFile cs bytes → IsFile ds bytes → cs ≡ ds }
-{}
+use tff_reader::one_answer as one_reading;
 
-/// At most one status and one text are due for given bytes.
+/// At most one status and one text are due for given options and bytes.
 pub fn one_answer()
-    ensures { (bytes : List ℕ) (s t : ℕ) (x y : List ℕ) → IsDueFor bytes s x → IsDueFor bytes t y → (s ≡ t) × (x ≡ y) }
+    ensures { (o : Options) (bytes : List ℕ) (s t : ℕ) (x y : List ℕ)
+        → IsDueFor o bytes s x → IsDueFor o bytes t y → (s ≡ t) × (x ≡ y) }
+{
+    one_reading();
+}
+
+/// Rows of the definitions, worked out: the first of two comparisons that is false, and none; the least number that is
+/// too large for a side; and where an answer behind a problem is cut off.
+pub fn definitions_give_rows()
+    ensures second_is_false { rows.SecondIsFalse }
+    ensures none_is_false { rows.NoneIsFalse }
+    ensures too_large { rows.TooLarge }
+    ensures cut_off { rows.CutOffAnswer }
+    ensures no_cut_inside { rows.NoCutInside }
 {}

@@ -2,16 +2,16 @@
 #![tactic(auto)]
 
 mod answers;
-mod comparisons;
-mod first_form;
+mod first_clauses;
 mod laws;
+mod sections;
 pub mod statuses;
 #[cfg(test)]
 mod tests;
 mod texts;
 mod top;
-mod words;
 
-pub use comparisons::Comparison;
-pub use laws::{one_answer, one_reading};
+pub use command_line::{Mode, Options};
+pub use first_clauses::{FirstClause, FirstSide};
+pub use laws::{definitions_give_rows, one_answer};
 pub use top::{Ended, INPUT_LIMIT, beagle};

@@ -2,6 +2,8 @@
 
 /// A refutation was written.
 pub const PROVED: u8 = 0;
+/// A saturated list was written.
+pub const SATURATED: u8 = 1;
 /// The input was refused.
 pub const REFUSED: u8 = 3;
 /// The words on the command line were refused.

@@ -1,18 +1,30 @@
 //! Whole runs over ends in memory.
 
-use crate::{Ended, beagle};
+use crate::{Ended, Mode, beagle};
 use byte_ends::{MemorySink, MemorySource};
 use std::alloc::{AllocError, Global};
 use std::test::Fail;
-
-const REFUTED: &str =
-    "% SZS status Unsatisfiable for stdin\nderivation 1 abstraction\n0 input 0 : (3 + 1) <= 2\n1 close 0 cert 0 case 0 1 clash 0 : $false\nend\n";
 
 const SECOND: &str =
     "% SZS status Unsatisfiable for stdin\nderivation 1 abstraction\n0 input 1 : (2 + 1) <= 1\n1 close 0 cert 0 case 0 1 clash 0 : $false\nend\n";
 
 const ENDS_OF_RANGE: &str =
     "% SZS status Unsatisfiable for stdin\nderivation 1 abstraction\n0 input 2 : 999999999999999999 <= -999999999999999999\n1 close 0 cert 0 case 0 1 clash 0 : $false\nend\n";
+
+const EMPTY_CLAUSE: &str =
+    "% SZS status Unsatisfiable for stdin\nderivation 1 abstraction\n0 input 1 : $false\nend\n";
+
+const FALSE_AXIOM: &str =
+    "% SZS status Unsatisfiable for stdin\nderivation 1 abstraction\n0 input 0 : $false\nend\n";
+
+const THEOREM: &str =
+    "% SZS status Theorem for stdin\nderivation 1 abstraction\n0 input 1 : 2 <= 1\n1 close 0 cert 0 case 0 1 clash 0 : $false\nend\n";
+
+const ONE_KEPT: &str =
+    "% Saturated for stdin\nlist 1 abstraction\nkept 1\n0 : (1 + 1) <= 2\ndropped 0\nvalues 0\nend\n";
+
+const NONE_KEPT: &str =
+    "% Saturated for stdin\nlist 1 abstraction\nkept 0\ndropped 0\nvalues 0\nend\n";
 
 const NOT_BUILT: &str = "% refused: NotBuilt\n";
 
@@ -21,68 +33,286 @@ fn source(alloc: Global, text: &str, failing: u64) -> Result<MemorySource, Alloc
     Ok(MemorySource::new(bytes, vec![in alloc; failing]?))
 }
 
-// Runs the program on the text, without a word and without faults.
-fn run(alloc: Global, text: &str) -> Result<(Ended, MemorySink), AllocError> {
+// The words of a line, none for an empty one.
+fn split(alloc: Global, line: &str) -> Result<Vec<String>, AllocError> {
+    let mut words = Vec::new(alloc);
+    for word in line.split(' ') {
+        if !word.is_empty() {
+            words.push(String::from_str(alloc, word)?)?;
+        }
+    }
+    Ok(words)
+}
+
+// Runs the program on the text, without faults.
+fn run(alloc: Global, line: &str, text: &str) -> Result<(Ended, MemorySink), AllocError> {
     let mut source = source(alloc, text, 0)?;
     let mut sink = MemorySink::new(alloc, 1000, 1000, Vec::new(alloc))?;
-    let words = Vec::new(alloc);
+    let words = split(alloc, line)?;
     let ended = beagle(alloc, &words, &mut source, &mut sink);
     Ok((ended, sink))
 }
 
+// Whether the program writes this, with this status.
+fn writes(
+    alloc: Global,
+    line: &str,
+    text: &str,
+    status: u8,
+    written: &str,
+) -> Result<bool, AllocError> {
+    let (ended, sink) = run(alloc, line, text)?;
+    Ok(ended.status == status && sink.bytes() == written.as_bytes())
+}
+
 #[test]
-fn answers(rt: HostRuntime) -> Result<(), Fail> {
+fn refutes(rt: HostRuntime) -> Result<(), Fail> {
     let rows = [
-        ("tff(a,axiom,$less(3,2)).", 0, REFUTED),
         (
             "tff(a,axiom,$less(1,2)). tff(b,axiom,$greater(1,+02)).",
-            0,
             SECOND,
         ),
         (
             " tff\t(b ,\r\naxiom,$greatereq(-0 , 000) ) .tff(b,axiom,$greater(7,-5)).\ntff(c_1X,axiom,$lesseq(999999999999999999,-999999999999999999)).\n",
-            0,
             ENDS_OF_RANGE,
         ),
-        ("tff(a,axiom,$less(1,2)).", 3, NOT_BUILT),
-        ("tff(a,axiom,p).", 3, NOT_BUILT),
-        ("", 3, NOT_BUILT),
-        ("tff(a,axiom,$less(3,2)). %", 3, NOT_BUILT),
         (
-            "tff(a,axiom,$less(3,2)).tff(A,axiom,$less(3,2)).",
-            3,
+            "tff(a,axiom,$lesseq(1,1)). tff(b,axiom,$false). tff(c,axiom,$less(2,1)).",
+            EMPTY_CLAUSE,
+        ),
+        (
+            "tff(a,axiom,$less(0,1)). tff(b,conjecture,$less(1,2)).",
+            THEOREM,
+        ),
+        ("tff(a,axiom,$false).", FALSE_AXIOM),
+    ];
+    for (text, written) in rows {
+        assert!(rt; writes(rt.alloc(), "", text, 0, written)?, "{text}");
+    }
+    Ok(())
+}
+
+#[test]
+fn keeps(rt: HostRuntime) -> Result<(), Fail> {
+    let alloc = rt.alloc();
+    assert!(rt; writes(alloc, "", "", 1, NONE_KEPT)?);
+    assert!(rt; writes(alloc, "", "tff(a,axiom,$less(1,2)).", 1, ONE_KEPT)?);
+    let ordinary =
+        "% Saturated for stdin\nlist 1 ordinary\nkept 1\n0 : (1 + 1) <= 2\ndropped 0\nvalues 0\nend\n";
+    assert!(rt; writes(alloc, "--ordinary", "tff(a,axiom,$less(1,2)).", 1, ordinary)?);
+    let negated =
+        "% Saturated for stdin\nlist 1 abstraction\nkept 1\n0 : 1 <= 2\ndropped 0\nvalues 0\nend\n";
+    assert!(rt; writes(alloc, "", "tff(c,conjecture,$less(2,1)).", 1, negated)?);
+    let refuted =
+        "% SZS status Unsatisfiable for stdin\nderivation 1 ordinary\n0 input 0 : $false\nend\n";
+    assert!(rt; writes(alloc, "--ordinary", "tff(a,axiom,$false).", 0, refuted)?);
+    Ok(())
+}
+
+// Whether each input is refused with its line.
+fn are_refused(alloc: Global, rows: &[(&str, &str)]) -> Result<bool, AllocError> {
+    for (text, line) in rows {
+        if !writes(alloc, "", text, 3, line)? {
+            return Ok(false);
+        }
+    }
+    Ok(true)
+}
+
+#[test]
+fn refuses_texts(rt: HostRuntime) -> Result<(), Fail> {
+    let rows = [
+        ("tff(a,axiom,'p", "% refused: Lex at 12\n"),
+        ("tff(a,axiom,$less(+ 3,2)).", "% refused: Lex at 18\n"),
+        ("tff(a,axiom,p)", "% refused: Syntax at 14\n"),
+        ("tff(a,axiom,$less(3,2))", "% refused: Syntax at 23\n"),
+        ("fof(a,axiom,p).", "% refused: Language at 0\n"),
+        (
+            "tff(a,axiom,$ite(p,q,r)).",
+            "% refused: Unsupported at 12 $ite\n",
+        ),
+    ];
+    assert!(rt; are_refused(rt.alloc(), rows.as_slice())?);
+    Ok(())
+}
+
+#[test]
+fn refuses_later_parts(rt: HostRuntime) -> Result<(), Fail> {
+    let rows = [
+        (
+            "tff(b,axiom,![Y:$real]:p(Y)).\ntff(a,axiom,![X:$int]:$less($product(X,X),0)).",
+            "% refused: Unsupported at 16 $real\n",
+        ),
+        (
+            "tff(a,conjecture,$true). tff(b,conjecture,$true).",
+            "% refused: TwoConjectures at 31\n",
+        ),
+    ];
+    assert!(rt; are_refused(rt.alloc(), rows.as_slice())?);
+    Ok(())
+}
+
+#[test]
+fn refuses_ends_of_range(rt: HostRuntime) -> Result<(), Fail> {
+    let rows = [
+        (
+            "tff(a,axiom,$less(0,170141183460469231731687303715884105728)).",
+            "% refused: NumberTooWide at 20\n",
+        ),
+        (
+            "tff(a,axiom,$less(0,170141183460469231731687303715884105727)).",
             NOT_BUILT,
         ),
-        ("tff(a,axiom,$less(1000000000000000000,2)).", 3, NOT_BUILT),
-        ("tff(a,axiom,$less(+ 3,2)).", 3, NOT_BUILT),
-        ("tff(a,axiom,$less(3,2))", 3, NOT_BUILT),
+        (
+            "tff(a,axiom,$less(-170141183460469231731687303715884105729,0)).",
+            "% refused: NumberTooWide at 18\n",
+        ),
+        (
+            "tff(a,axiom,$less(-170141183460469231731687303715884105728,0)).",
+            NOT_BUILT,
+        ),
+        ("tff(a,axiom,$less(-1000000000000000000,2)).", NOT_BUILT),
     ];
-    for (text, status, written) in rows {
-        let (ended, sink) = run(rt.alloc(), text)?;
-        assert_eq!(rt; ended.status, status, "{text}");
-        assert_eq!(rt; sink.bytes(), written.as_bytes(), "{text}");
+    assert!(rt; are_refused(rt.alloc(), rows.as_slice())?);
+    Ok(())
+}
+
+#[test]
+fn refuses_names(rt: HostRuntime) -> Result<(), Fail> {
+    let rows = [
+        (
+            "tff(a,type,f:$int>$int). tff(b,type,f:$int).",
+            "% refused: Redeclared at 36\n",
+        ),
+        ("tff(a,type,c:foo).", "% refused: UnknownSort at 13\n"),
+        ("tff(a,axiom,p(0)).", "% refused: IllTyped at 14\n"),
+        ("tff(a,axiom,$less(1)).", "% refused: IllTyped at 12\n"),
+        (
+            "tff(a,axiom,![X:$int,Y:$int]:$less($product(X,Y),0)).",
+            "% refused: NonLinear at 35\n",
+        ),
+        (
+            "tff(a,axiom,![X:$int]:$less($product(X,X),0)).\ntff(b,axiom,![Y:$real]:p(Y)).",
+            "% refused: Unsupported at 63 $real\n",
+        ),
+    ];
+    assert!(rt; are_refused(rt.alloc(), rows.as_slice())?);
+    Ok(())
+}
+
+#[test]
+fn not_built(rt: HostRuntime) -> Result<(), Fail> {
+    let alloc = rt.alloc();
+    assert!(rt; writes(alloc, "", "tff(a,axiom,p).", 3, NOT_BUILT)?);
+    assert!(rt;
+        writes(
+            alloc,
+            "",
+            "tff(a,axiom,$less(1000000000000000000,2)).",
+            3,
+            NOT_BUILT
+        )?
+    );
+    assert!(rt; writes(alloc, "--check", "tff(a,axiom,$less(3,2)).", 3, NOT_BUILT)?);
+    let checked =
+        "tff(a,axiom,$less(3,2)).\n% SZS status Unsatisfiable for stdin\nderivation 1 abstraction\n";
+    assert!(rt; writes(alloc, "--check", checked, 3, NOT_BUILT)?);
+    assert!(rt; writes(alloc, "", checked, 3, "% refused: Syntax at 62\n")?);
+    assert!(rt;
+        writes(
+            alloc,
+            "--check",
+            "tff(a,axiom,p(X)).",
+            3,
+            "% refused: IllTyped at 14\n"
+        )?
+    );
+    Ok(())
+}
+
+// A disjunction of 17 conjunctions of two propositions has 2^17 clauses.
+#[test]
+fn too_many(rt: HostRuntime) -> Result<(), Fail> {
+    let alloc = rt.alloc();
+    let mut text = String::from_str(alloc, "tff(a,axiom,(p0&q0)")?;
+    for n in 1..17 {
+        let member = format!(in alloc; "|(p{n}&q{n})")?;
+        text.push_str(member.as_str())?;
     }
+    text.push_str(").")?;
+    assert!(rt;
+        writes(
+            alloc,
+            "",
+            text.as_str(),
+            3,
+            "% refused: TooManyClauses 131072\n"
+        )?
+    );
     Ok(())
 }
 
 #[test]
 fn usage(rt: HostRuntime) -> Result<(), Fail> {
     let alloc = rt.alloc();
-    for line in ["--workers 9", "--check --make 1", "--help", ""] {
-        let mut words = Vec::new(alloc);
-        for word in line.split(' ') {
-            words.push(String::from_str(alloc, word)?)?;
-        }
+    for line in [
+        "--workers 9",
+        "--turns 0",
+        "--make",
+        "--check 1",
+        "--workers 2 --workers 2",
+        "--check --make 1",
+        "--help",
+        "--version",
+        "--unknown",
+        "x",
+    ] {
+        let words = split(alloc, line)?;
         let mut source = source(alloc, "tff(a,axiom,$less(3,2)).", 1)?;
         let mut sink = MemorySink::new(alloc, 1000, 1000, Vec::new(alloc))?;
-        assert_eq!(rt;
-            beagle(alloc, &words, &mut source, &mut sink).status,
-            4,
-            "{line}"
-        );
+        let ended = beagle(alloc, &words, &mut source, &mut sink);
+        assert!(rt; ended.status == 4 && ended.options.is_none(), "{line}");
         assert_eq!(rt; sink.bytes(), b"% usage\n".as_slice(), "{line}");
         assert_eq!(rt; source.faults(), 0, "{line}");
     }
+    Ok(())
+}
+
+// What is to be made reads nothing.
+#[test]
+fn make_is_not_built(rt: HostRuntime) -> Result<(), Fail> {
+    let alloc = rt.alloc();
+    let words = split(alloc, "--make 1")?;
+    let mut source = source(alloc, "tff(", 1)?;
+    let mut sink = MemorySink::new(alloc, 1000, 1000, Vec::new(alloc))?;
+    let ended = beagle(alloc, &words, &mut source, &mut sink);
+    assert!(rt; ended.status == 3 && ended.options.is_some());
+    assert_eq!(rt; sink.bytes(), NOT_BUILT.as_bytes());
+    assert_eq!(rt; source.faults(), 0);
+    Ok(())
+}
+
+#[test]
+fn usage_over_a_failing_sink(rt: HostRuntime) -> Result<(), Fail> {
+    let alloc = rt.alloc();
+    let words = split(alloc, "x")?;
+    let mut source = source(alloc, "", 0)?;
+    let mut sink = MemorySink::new(alloc, 1000, 3, vec![in alloc; 2u64]?)?;
+    let ended = beagle(alloc, &words, &mut source, &mut sink);
+    assert!(rt; ended.status == 6 && ended.options.is_none());
+    assert_eq!(rt; sink.bytes(), b"% u".as_slice());
+    Ok(())
+}
+
+#[test]
+fn options(rt: HostRuntime) -> Result<(), Fail> {
+    let (ended, _) = run(rt.alloc(), "--workers 3 --turns 7 --make 5", "")?;
+    let Some(options) = ended.options else {
+        assert!(rt; false);
+        return Ok(());
+    };
+    assert!(rt; options.workers == 3 && options.turns == 7 && options.judge_steps == 200_000);
+    assert!(rt; !options.ordinary && options.mode == Mode::Make(5));
     Ok(())
 }
 
@@ -108,12 +338,15 @@ fn failing_ends(rt: HostRuntime) -> Result<(), Fail> {
 fn limit(rt: HostRuntime) -> Result<(), Fail> {
     let alloc = rt.alloc();
     let words = Vec::new(alloc);
-    let rows = [(0, NOT_BUILT), (1, "% refused: TooLong\n")];
-    for (more, written) in rows {
+    let rows = [(0, 1, NONE_KEPT), (1, 3, "% refused: TooLong\n")];
+    for (more, status, written) in rows {
         let bytes = vec![in alloc; b' '; 16_777_216 + more]?;
         let mut source = MemorySource::new(bytes, Vec::new(alloc));
         let mut sink = MemorySink::new(alloc, 1000, 1000, Vec::new(alloc))?;
-        assert_eq!(rt; beagle(alloc, &words, &mut source, &mut sink).status, 3);
+        assert_eq!(rt;
+            beagle(alloc, &words, &mut source, &mut sink).status,
+            status
+        );
         assert_eq!(rt; sink.bytes(), written.as_bytes());
     }
     Ok(())

@@ -1,0 +1,1 @@
+tff(c,conjecture,$less(41,42)).
