@@ -16,6 +16,6 @@ pub returns-in_ok-refused-in-Err-Refused-clause-due : goal.returns-in_ok-refused
 returns-in_ok-refused-in-Err-Refused-clause-due c =
     let same : c.in-Err-Refused.field-0 ≡ errors.Refused c.in-Err-Refused.fault = search rules in
     let found : IsRefused c.problem_bytes.result.now c.in-Err-Refused.fault =
-        subst (λ (e : ReadError). Explains c.problem_bytes.result.now e) same c.in-Err-Refused.ensures.refused in
+    subst (λ (e : ReadError). Explains c.problem_bytes.result.now e) same c.in-Err-Refused.ensures.refused in
     let is = subst (λ (bytes : List ℕ). IsRefused bytes c.in-Err-Refused.fault) c.problem_bytes.ensures found in
     fault c.in-Err-Refused.fault is refl (search rules)
