@@ -635,6 +635,28 @@ fn an_equation_past_the_range(rt: HostRuntime) {
     assert!(rt; told_at(clause_before_target_past(rt.alloc())) == want);
 }
 
+// (2^127 - 1 + 1) <= -1 without 2 * 2^126 <= 0
+fn clause_and_target_past(alloc: Global) -> Result<Viewed, ViewError> {
+    let clause = unit(alloc, past(alloc)?)?;
+    let multiple = Term::scale(alloc, 2, Term::Num(1 << 126))?;
+    let target = unit(alloc, Literal::AtMost(multiple, Term::Num(0)))?;
+    without(alloc, clause, &target)
+}
+
+// -2^127 * s0 != -(2^127 - 1): both facts leave the range
+fn both_facts_past(alloc: Global) -> Result<Viewed, ViewError> {
+    let left = Term::scale(alloc, i128::MIN, s(alloc, 0))?;
+    view_of(alloc, Literal::Differ(left, Term::Num(-i128::MAX)))
+}
+
+// the earlier of two operations
+#[test]
+fn two_operations_past_the_range(rt: HostRuntime) {
+    let want = wide_at(0, Op::Add, i128::MAX, 1);
+    assert!(rt; told_at(clause_and_target_past(rt.alloc())) == want);
+    assert!(rt; told_at(both_facts_past(rt.alloc())) == want);
+}
+
 #[test]
 fn a_clause_past_the_range(rt: HostRuntime) {
     let alloc = rt.alloc();

@@ -165,6 +165,7 @@ fn combinations_past_the_range(rt: HostRuntime) {
     let greatest = number(alloc, i128::MAX);
     let one = number(alloc, 1);
     let past = Some(wide(Op::Add, i128::MAX, 1));
+    assert!(rt; wide_of(add(alloc, &greatest, &one)) == past);
     assert!(rt; wide_of(add_number(alloc, &greatest, 1)) == past);
     assert!(rt; wide_of(add_scaled(alloc, &greatest, 1, &one)) == past);
     let product = Some(wide(Op::Mul, 2, i128::MAX));
