@@ -54,7 +54,7 @@ fn content(alloc: Global, pieces: &[Piece], again: bool) -> Result<(Content, &[P
 }
 
 /// The end of a statement, behind annotations where there are some.
-fn ending(alloc: Global, pieces: &[Piece]) -> Result<&[Piece], Stop>
+fn ending(pieces: &[Piece]) -> Result<&[Piece], Stop>
     ensures ok { IfOk result (λ rest. (k : Stack) (vs : Values) → m.levels k ≡ 0 → go (m.ending ∷ k) vs pieces.now ≡ go k (m.ending_taken vs) rest.now) }
     ensures rest { IfOk result (λ rest. length rest.now ≤ length pieces.now) }
     ensures err { IfErr result (Stops (m.ending ∷ []) [] 0 pieces.now) }
@@ -81,7 +81,7 @@ fn statement(alloc: Global, pieces: &[Piece], again: bool) -> Result<(Statement,
     let (name, after) = name(inner)?;
     let behind = expect(after, Sign::Comma, 0)?;
     let (content, close) = content(alloc, behind, again)?;
-    let rest = ending(alloc, close)?;
+    let rest = ending(close)?;
     Ok((Statement { name, content }, rest))
 }
 

@@ -16,7 +16,8 @@ use tff_grammar::{BasicSort, Content, DeclaredType, Formula, Sort, Statement, Va
 /// What a file declares: the type of the first declaration of each name, and its sorts.
 #[derive(Drop)]
 pub struct Declared<'a> {
-    types: IndexMap<Vec<u8>, &'a DeclaredType>,
+    /// The declared types, each by the name of its first declaration.
+    pub types: IndexMap<Vec<u8>, &'a DeclaredType>,
     /// The declared sorts, by their first declarations.
     pub sorts: Names,
 }

@@ -19,7 +19,8 @@ use tff_grammar::{
 /// The symbols of a file, in the order of their numbers.
 #[derive(Drop)]
 pub struct Signature {
-    names: Names,
+    /// The names of the symbols, in the same order.
+    pub names: Names,
     /// The symbols.
     pub symbols: Items<Symbol>,
 }
