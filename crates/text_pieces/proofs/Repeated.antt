@@ -1,8 +1,7 @@
 -- So many texts, one behind the other.
-use Rattle.std.proofs.Common.{◌≡◌, ℕ, zero, suc, ◌+◌, ◌^◌, ◌<◌, ◌≤◌, List, [], ◌∷◌, ◌++◌, length, length-append, refl, sym, ap, subst, ◌∙◌, append-nil, append_assoc, arith}
+use Rattle.std.proofs.Common.{◌≡◌, ℕ, zero, suc, ◌+◌, ◌<◌, ◌≤◌, List, [], ◌∷◌, ◌++◌, length, length-append, refl, sym, ap, subst, ◌∙◌, append-nil, append_assoc, arith}
 use Rattle.text_pieces.specs.Languages.{NoDigit, Reads, Fails, Cat, Blank, Times}
-use Rattle.text_pieces.specs.Numbers.{Number, Any, IsCount, Counted}
-use Rattle.text_pieces.specs.Counting.{BlankCount}
+use Rattle.text_pieces.specs.Numbers.{Number, Any, Counted}
 use Rattle.text_pieces.proofs.Joining.{same_fails, same_reads}
 use Rattle.text_pieces.proofs.Lifting.{Lift, lift-then, lift-image, unambiguous-cat, unambiguous-blank, unambiguous-image, first_fails, first_reads}
 use Rattle.text_pieces.proofs.Reaching.{one_front-number, has_one-number}
@@ -129,37 +128,3 @@ module _ {A : Type 0} (L : A → List ℕ → Type 0) where
       by : (left : ℕ) → Lift (Times L n) bytes (Times L left) rest (λ more. so_far ++ more) → length so_far + left ≡ n → Fails (Times L n) bytes at
       by zero lift count = absurd (omega arith)
       by (suc left) lift count = lift.fails at (times-fails l left rest at f)
-
-  -- ---- behind a count that may stand for a larger one
-  pub record SomeSo (bytes : List ℕ) (count : ℕ) (so_far : List A) (rest : List ℕ) : Type 0 where
-    pub number : ℕ
-    pub is : IsCount count number
-    pub middle : List ℕ
-    pub lift : Lift (Counted L) bytes (Times L number) middle (λ xs. xs)
-    pub so : ReadSo number middle so_far rest
-
-  pub some_none : Unambiguous L → (bytes : List ℕ) (count : ℕ) (rest : List ℕ) → BlankCount bytes count rest → SomeSo bytes count [] rest
-  some_none l bytes count rest r = record {
-    number = r.number;
-    is = r.is;
-    middle = rest;
-    lift = counted-count l r.number bytes rest r.reads;
-    so = read_none r.number rest r.reads.ends;
-  }
-
-  pub some_more : Unambiguous L → (bytes : List ℕ) (count : ℕ) (so_far : List A) (rest last : List ℕ) (a : A) → length so_far < count → SomeSo bytes count so_far rest → Reads L rest a last
-      → SomeSo bytes count (so_far ++ a ∷ []) last
-  some_more l bytes count so_far rest last a less s r = record {
-    number = s.number;
-    is = s.is;
-    middle = s.middle;
-    lift = s.lift;
-    so = read_more l s.number s.middle so_far rest last a (omega (arith, s.is)) s.so r;
-  }
-
-  pub some_fails : Unambiguous L → (bytes : List ℕ) (count : ℕ) (so_far : List A) (rest : List ℕ) (at : ℕ) → length so_far < count → SomeSo bytes count so_far rest → Fails L rest at
-      → Fails (Counted L) bytes at
-  some_fails l bytes count so_far rest at less s f = s.lift.fails at (read_fails l s.number s.middle so_far rest at (omega (arith, s.is)) s.so f)
-
-  pub some_all : (bytes : List ℕ) (count : ℕ) (so_far : List A) (rest : List ℕ) → count ≤ length so_far → length so_far < 2 ^ 64 → SomeSo bytes count so_far rest → Reads (Counted L) bytes so_far rest
-  some_all bytes count so_far rest all small s = s.lift.reads so_far rest (read_all s.number s.middle so_far rest (omega (arith, s.is)) s.so)

@@ -1,9 +1,9 @@
 -- Lists with a byte between each two members and another byte behind the last.
-use Rattle.std.proofs.Common.{◌≡◌, ℕ, false, List, [], ◌∷◌, ◌++◌, length, refl, sym, ap, subst, ◌∙◌, append-nil, append_assoc}
+use Rattle.std.proofs.Common.{◌≡◌, ℕ, false, List, [], ◌∷◌, ◌++◌, refl, sym, ap, subst, ◌∙◌, append-nil, append_assoc}
 use Rattle.text_pieces.specs.Decimals.{is_digit}
 use Rattle.text_pieces.specs.Languages.{NoDigit, GoesOn, Reads, StopsAt, Fails, Cat, Exactly}
-use Rattle.text_pieces.specs.Separated.{Next, Tail, Separated}
-use Rattle.text_pieces.specs.Unambiguous.{HasOne, OneFront, SameFront, StartsClear, Unambiguous}
+use Rattle.text_pieces.specs.Separated.{Tail, Separated}
+use Rattle.text_pieces.specs.Unambiguous.{OneFront, StartsClear, Unambiguous}
 use Rattle.text_pieces.proofs.Joining.{head_same, tail_same, no_digit-append}
 use Rattle.text_pieces.proofs.Lifting.{Lift, lift-then, lift-image, first_fails, first_reads}
 

@@ -29,7 +29,7 @@ pub trait Printer {
     /// Which bytes spell which value.
     ghost spells: { Self.Value → List ℕ → Type 0 };
 
-    /// Which values have a spelling.
+    /// Which values may be printed.
     ghost is_spelled: { Self.Value → Bool };
 
     /// Puts a value behind the text.

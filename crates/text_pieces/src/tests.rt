@@ -86,6 +86,9 @@ fn reads_bytes_and_words(rt: HostRuntime) {
     let words: [&[u8]; 3] = [b"=", b"!=", b"<="];
     assert_eq!(rt; one_of(b"!= 3", &words), Ok((1, &b" 3"[..])));
     assert_eq!(rt; one_of(b"!x", &words), Err(Bad { left: 1 }));
+    let beginnings: [&[u8]; 3] = [b"case", b"c", b"cut"];
+    assert_eq!(rt; one_of(b"case 0", &beginnings), Ok((0, &b" 0"[..])));
+    assert_eq!(rt; one_of(b"cut 0", &beginnings), Ok((1, &b"ut 0"[..])));
 }
 
 /// Numbers, put one behind the other.
