@@ -1,7 +1,7 @@
 //! Printing of the parts of texts.
 
 ghost use Rattle.std.specs.List.{list_all};
-ghost use Rattle.std.specs.Prelude.{◌≡◌, ◌∷◌, ◌++◌, ◌&&◌, IsTrue, length};
+ghost use Rattle.std.specs.Prelude.{◌≡◌, ◌∷◌, ◌++◌, ◌&&◌, IsTrue, length, true};
 ghost use Rattle.text_pieces.specs.Decimals.{decimal, signed_decimal};
 ghost use Rattle.text_pieces.specs.Languages.{Blank};
 ghost use Rattle.text_pieces.specs.Numbers.{Number, Any, Counted};
@@ -16,7 +16,7 @@ ghost use Rattle.lin_base.specs.Sum.{is_reduced};
 use cert_tree::Row;
 use lin_base::Lin;
 use std::alloc::{AllocError, Global};
-use text_pieces::{push, push_blank_decimal, push_blank_signed};
+use text_pieces::{Printer, push, push_blank_decimal, push_blank_signed, push_counted};
 
 /// Puts a blank and the number of a clause, a fact, a parameter or a variable behind the text.
 pub fn push_index(alloc: Global, text: &mut Vec<u8>, n: u32) -> Result<(), AllocError>
@@ -47,6 +47,21 @@ fn push_multiple(alloc: Global, text: &mut Vec<u8>, fact: u32, k: i128) -> Resul
     push_whole(alloc, text, k)
 }
 
+// Prints facts' numbers with their multipliers.
+struct PrintMultiple;
+
+impl Printer for PrintMultiple {
+    type Value = (u32, i128);
+
+    ghost spells = { Multiple };
+
+    ghost is_spelled = { λ _. true };
+
+    fn push(alloc: Global, text: &mut Vec<u8>, value: &(u32, i128)) -> Result<(), AllocError> {
+        push_multiple(alloc, text, value.0, value.1)
+    }
+}
+
 /// Puts a blank, a count and behind it facts' numbers with their multipliers behind the text, each number behind a blank.
 pub fn push_multiples(
     alloc: Global,
@@ -55,11 +70,7 @@ pub fn push_multiples(
 ) -> Result<(), AllocError>
     ensures { Puts (Counted Multiple) list.now text.old.items text.new.items result }
 {
-    push_count(alloc, text, list.len())?;
-    for term in list {
-        push_multiple(alloc, text, term.0, term.1)?;
-    }
-    Ok(())
+    push_counted::<PrintMultiple>(alloc, text, list)
 }
 
 // Puts the terms of a sum behind the text, each number behind a blank.
@@ -129,13 +140,20 @@ fn push_low(
     push_whole(alloc, text, j)
 }
 
-// Puts a blank and a row behind the text.
-fn push_blank_row(alloc: Global, text: &mut Vec<u8>, row: &Row) -> Result<(), AllocError>
-    requires { IsTrue (row_is_spelled row.now) }
-    ensures { Puts (Blank SpellsRow) row.now text.old.items text.new.items result }
-{
-    push(text, b" ")?;
-    push_row(alloc, text, row)
+// Prints rows, each behind a blank.
+struct PrintRow;
+
+impl Printer for PrintRow {
+    type Value = Row;
+
+    ghost spells = { Blank SpellsRow };
+
+    ghost is_spelled = { row_is_spelled };
+
+    fn push(alloc: Global, text: &mut Vec<u8>, row: &Row) -> Result<(), AllocError> {
+        push(text, b" ")?;
+        push_row(alloc, text, row)
+    }
 }
 
 /// Puts a blank, the count of rows and the rows behind the text, each row behind a blank.
@@ -143,9 +161,5 @@ pub fn push_rows(alloc: Global, text: &mut Vec<u8>, rows: &[Row]) -> Result<(), 
     requires { IsTrue (list_all row_is_spelled rows.now) }
     ensures { Puts (Counted (Blank SpellsRow)) rows.now text.old.items text.new.items result }
 {
-    push_count(alloc, text, rows.len())?;
-    for row in rows {
-        push_blank_row(alloc, text, row)?;
-    }
-    Ok(())
+    push_counted::<PrintRow>(alloc, text, rows)
 }

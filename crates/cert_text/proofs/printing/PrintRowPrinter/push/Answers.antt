@@ -2,7 +2,7 @@ use Rattle.text_pieces.proofs.Adding.{adds-blank}
 use Rattle.cert_text.specs.Grammar.{SpellsRow}
 use Rattle.std.proofs.lemmas.Result.{MatchResult-weaker}
 use Rattle.text_pieces.proofs.Keeping.{as_it_was, by_bytes, then_kept, puts_err}
-use Rattle.cert_text.proofs.printing.push_blank_row.Goals as goal
+use Rattle.cert_text.proofs.printing.PrintRowPrinter.push.Goals as goal
 
 pub returns-in_err-push : goal.returns-in_err-push
 returns-in_err-push c = puts_err _ _ _ c.from_residual.result c.from_residual.ensures.1 (as_it_was c.in_err-push.ensures)
