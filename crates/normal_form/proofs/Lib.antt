@@ -6,6 +6,7 @@ pub mod Innermost
 pub mod Known
 pub mod Measures
 pub mod OneEmpty
+pub mod Quantifiers
 pub mod Rows
 pub mod Saturation
 pub mod Signature

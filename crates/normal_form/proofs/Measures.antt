@@ -12,7 +12,7 @@ use Rattle.normal_form.specs.declared.measuring.Measured.TheOpen.{Measured-F}
 use Rattle.normal_form.specs.declared.measuring.Measured.TheViews.{out-Measured, roll-Measured, the_lemmas}
 use Rattle.normal_form.specs.Count.{Number, number, number_step, saturated}
 use Rattle.normal_form.specs.Count as c
-use Rattle.normal_form.specs.Quantifiers.{is_quantified, quantified_step}
+use Rattle.normal_form.proofs.Quantifiers.{is_quantified, quantified_step}
 use Rattle.normal_form.specs.Measures.{measures, measures_step, node, counts, quantified, parts, always, atom, negated, both, either, implied, are_quantified}
 use Rattle.normal_form.proofs.FormulaCounts.{two_sum, two_product}
 use Rattle.normal_form.proofs.Saturation.{saturated_sum, saturated_product}

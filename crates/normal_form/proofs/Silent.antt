@@ -5,7 +5,7 @@ use Rattle.formula_base.specs.declared.formulas.Formula.{Formula}
 use Rattle.formula_base.specs.FormulaFolds.{fold-True, fold-False, fold-Same, fold-Less, fold-LessEq, fold-Not, fold-Implies, fold-Iff, fold-All, fold-Some, fold-Atom, fold-And, fold-Or}
 use Rattle.formula_base.specs.FormulaInduction.{Each, formula_induction}
 use Rattle.normal_form.specs.declared.scopes.Scope.{Scope}
-use Rattle.normal_form.specs.Quantifiers.{is_quantified, quantified_step}
+use Rattle.normal_form.proofs.Quantifiers.{is_quantified, quantified_step}
 use Rattle.normal_form.specs.Cnf.{Meaning, cnf, cnf_step, visit, all_symbols, always, negated, conjunction, disjunction, implication}
 
 -- nothing is made

@@ -6,5 +6,4 @@ pub mod Known
 pub mod Lookup
 pub mod Measures
 pub mod Numbering
-pub mod Quantifiers
 pub mod Rows

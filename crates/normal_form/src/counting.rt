@@ -95,12 +95,12 @@ pub(crate) fn counts_of(formula: &Formula) -> Counts
         Formula::Or(fs) => disjunction_counts(fs.as_slice()),
         Formula::Implies(f, g) => {
             let f = counts_of(f.get());
-            f.negated().or(counts_of(g.get()))
+            f.implies(counts_of(g.get()))
         }
         Formula::Iff(f, g) => {
             let f = counts_of(f.get());
             let g = counts_of(g.get());
-            f.negated().or(g).and(g.negated().or(f))
+            f.implies(g).and(g.implies(f))
         }
         Formula::All(_, f) | Formula::Some(_, f) => counts_of(f.get()),
     }

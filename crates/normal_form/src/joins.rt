@@ -1,6 +1,6 @@
 //! Lists of clauses, joined pairwise.
 
-ghost use Rattle.std.specs.Prelude.{◌≡◌, ◌++◌, map, OnOk, IfOk, if◌then◌else◌};
+ghost use Rattle.std.specs.Prelude.{◌≡◌, ◌++◌, ◌∷◌, [], map, OnOk, IfOk, IsTrue, ◌↔◌, if◌then◌else◌};
 ghost use Rattle.normal_form.specs.Cnf.{join};
 
 use crate::disjunctions::Disjunction;
@@ -8,11 +8,15 @@ use crate::literals::Clauses;
 use std::alloc::{AllocError, Global};
 
 /// Each clause of the first list with each of the second; the first runs slowest. Where the first list has one clause,
-/// the literals of the second are moved, and not copied.
+/// the literals of the second are moved, and not copied. Where the second is the empty clause alone, the first is the
+/// answer as it is.
 pub(crate) fn join(alloc: Global, left: Clauses, right: Clauses) -> Result<Clauses, AllocError>
     ensures { IfOk result (λ all. all.items ≡ join left.items right.items) }
 {
     let mut left = left;
+    if is_one_empty(right.as_slice()) {
+        return Ok(left);
+    }
     if left.len() != 1 {
         return join_each(alloc, left, right.as_slice());
     }
@@ -20,6 +24,13 @@ pub(crate) fn join(alloc: Global, left: Clauses, right: Clauses) -> Result<Claus
         Some(clause) => join_before(alloc, clause, right),
         None => Ok(left),
     }
+}
+
+/// Whether these are one clause, and that without literals.
+fn is_one_empty(clauses: &[Disjunction]) -> bool
+    ensures { IsTrue result ↔ (clauses.now ≡ [] ∷ []) }
+{
+    clauses.len() == 1 && clauses[0].is_empty()
 }
 
 /// A clause with each of a list behind it. The clause is copied for all but the last.

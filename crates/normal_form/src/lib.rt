@@ -25,7 +25,7 @@ pub use term_base::{Prepared, TooMany};
 #[cfg(test)]
 mod lazy_tests;
 #[cfg(test)]
-mod sign_tests;
+mod skolem_tests;
 #[cfg(test)]
 mod table_tests;
 #[cfg(test)]

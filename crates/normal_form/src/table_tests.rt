@@ -82,7 +82,7 @@ fn clause_text(alloc: Global, c: &Clause) -> Result<String, AllocError> {
     Ok(all)
 }
 
-fn clauses_text(alloc: Global, clauses: &[Clause]) -> Result<String, AllocError> {
+pub(crate) fn clauses_text(alloc: Global, clauses: &[Clause]) -> Result<String, AllocError> {
     let mut all = String::new(alloc);
     for clause in clauses {
         let one = clause_text(alloc, clause)?;
@@ -93,23 +93,35 @@ fn clauses_text(alloc: Global, clauses: &[Clause]) -> Result<String, AllocError>
 }
 
 // variables of sort Int by their binders' numbers
-fn int(id: u32) -> Variable {
+pub(crate) fn int(id: u32) -> Variable {
     Variable::abstraction(id)
 }
 
-fn individual(id: u32) -> Variable {
+pub(crate) fn individual(id: u32) -> Variable {
     Variable::ordinary(Sort::Individual, id)
 }
 
-fn for_all(alloc: Global, vs: &[Variable], body: Formula) -> Result<Formula, AllocError> {
+pub(crate) fn for_all(
+    alloc: Global,
+    vs: &[Variable],
+    body: Formula,
+) -> Result<Formula, AllocError> {
     Formula::for_all(alloc, Items::from_slice(alloc, vs)?, body)
 }
 
-fn for_some(alloc: Global, vs: &[Variable], body: Formula) -> Result<Formula, AllocError> {
+pub(crate) fn for_some(
+    alloc: Global,
+    vs: &[Variable],
+    body: Formula,
+) -> Result<Formula, AllocError> {
     Formula::for_some(alloc, Items::from_slice(alloc, vs)?, body)
 }
 
-fn either(alloc: Global, first: Formula, second: Formula) -> Result<Formula, AllocError> {
+pub(crate) fn either(
+    alloc: Global,
+    first: Formula,
+    second: Formula,
+) -> Result<Formula, AllocError> {
     let mut members = Items::new(alloc);
     members.push(first)?;
     members.push(second)?;
@@ -129,7 +141,7 @@ fn c(alloc: Global) -> Term {
 }
 
 // the predicate 0 of this variable
-fn p(alloc: Global, v: Variable) -> Result<Formula, AllocError> {
+pub(crate) fn p(alloc: Global, v: Variable) -> Result<Formula, AllocError> {
     Ok(Formula::Atom(apply(alloc, 0, Term::Var(v))?))
 }
 
@@ -172,7 +184,7 @@ fn without_symbols(alloc: Global) -> Result<Formula, AllocError> {
 }
 
 // $lesseq(N,c) & p(N)
-fn bounded(alloc: Global, n: Variable) -> Result<Formula, AllocError> {
+pub(crate) fn bounded(alloc: Global, n: Variable) -> Result<Formula, AllocError> {
     both(alloc, Formula::LessEq(Term::Var(n), c(alloc)), p(alloc, n)?)
 }
 
@@ -200,6 +212,40 @@ fn less_than_twice(alloc: Global) -> Result<Formula, AllocError> {
     for_all(alloc, &[int(0)], Formula::Less(Term::Var(int(0)), twice))
 }
 
+// ! [N: $int] : ? [M: $int] : $less(N,M)
+fn bounded_above(alloc: Global) -> Result<Formula, AllocError> {
+    let (n, m) = (int(0), int(1));
+    let body = Formula::Less(Term::Var(n), Term::Var(m));
+    for_all(alloc, &[n], for_some(alloc, &[m], body)?)
+}
+
+// ! [X: $i,N: $int] : ? [M: $int] : p(M)
+pub(crate) fn under_unused(alloc: Global) -> Result<Formula, AllocError> {
+    let (x, n, m) = (individual(0), int(1), int(2));
+    for_all(alloc, &[x, n], for_some(alloc, &[m], p(alloc, m)?)?)
+}
+
+// ( ? [N: $int] : p(N) ) <=> ( ? [M: $int] : p(M) )
+fn some_as_some(alloc: Global) -> Result<Formula, AllocError> {
+    let first = for_some(alloc, &[int(0)], p(alloc, int(0))?)?;
+    Formula::equivalence(alloc, first, for_some(alloc, &[int(1)], p(alloc, int(1))?)?)
+}
+
+// r & p(c)
+fn r_and_p_of_c(alloc: Global) -> Result<Formula, AllocError> {
+    let of_c = Formula::Atom(apply(alloc, 0, c(alloc))?);
+    both(alloc, proposition(alloc, 3), of_c)
+}
+
+// ( q & r ) | ( $false & q ) | ( r & p(c) )
+fn joined(alloc: Global) -> Result<Formula, AllocError> {
+    let mut members = Items::new(alloc);
+    members.push(both(alloc, proposition(alloc, 2), proposition(alloc, 3))?)?;
+    members.push(both(alloc, Formula::False, proposition(alloc, 2))?)?;
+    members.push(r_and_p_of_c(alloc)?)?;
+    Ok(Formula::Or(members))
+}
+
 fn ground(alloc: Global, row: usize) -> Result<Formula, AllocError> {
     match row {
         0 => Ok(Formula::True),
@@ -209,7 +255,10 @@ fn ground(alloc: Global, row: usize) -> Result<Formula, AllocError> {
         4 => Ok(Formula::Same(c(alloc), Term::Num(1))),
         5 => Formula::negation(alloc, proposition(alloc, 2)),
         6 => Formula::implication(alloc, proposition(alloc, 2), proposition(alloc, 3)),
-        _ => Formula::equivalence(alloc, proposition(alloc, 2), proposition(alloc, 3)),
+        7 => Formula::equivalence(alloc, proposition(alloc, 2), proposition(alloc, 3)),
+        8 => both(alloc, proposition(alloc, 2), proposition(alloc, 3)),
+        9 => either(alloc, proposition(alloc, 2), proposition(alloc, 3)),
+        _ => joined(alloc),
     }
 }
 
@@ -224,7 +273,10 @@ fn quantified(alloc: Global, row: usize) -> Result<Formula, AllocError> {
         6 => all_and_some(alloc),
         7 => some_or_some(alloc),
         8 => all_implies_some(alloc),
-        _ => less_than_twice(alloc),
+        9 => less_than_twice(alloc),
+        10 => bounded_above(alloc),
+        11 => under_unused(alloc),
+        _ => some_as_some(alloc),
     }
 }
 
@@ -270,6 +322,44 @@ fn gives_the_clauses_of_formulas_without_variables(rt: HostRuntime) -> Result<()
             assert!(rt; minus.as_str() == conjecture, "conjecture {row}");
         }
     }
+    Ok(())
+}
+
+#[test]
+fn gives_the_clauses_of_lists(rt: HostRuntime) -> Result<(), Fail> {
+    let alloc = rt.alloc();
+    for (row, premise, conjecture) in [
+        (8, "s2 = true;s3 = true;", "s2 != true | s3 != true;"),
+        (9, "s2 = true | s3 = true;", "s2 != true;s3 != true;"),
+    ] {
+        let plus = given(alloc, ground(alloc, row)?, false, true)?;
+        assert!(rt; plus.as_str() == premise, "premise {row}");
+        let minus = given(alloc, ground(alloc, row)?, true, true)?;
+        assert!(rt; minus.as_str() == conjecture, "conjecture {row}");
+    }
+    Ok(())
+}
+
+// the clause of the first list runs slowest, then that of the second; $false gives no clause with minus
+#[test]
+fn joins_three_lists(rt: HostRuntime) -> Result<(), Fail> {
+    let alloc = rt.alloc();
+    let plus = given(alloc, ground(alloc, 10)?, false, true)?;
+    let mut want = String::new(alloc);
+    for half in ["s2", "s3"] {
+        for rest in [
+            "s3 = true;",
+            "s0(s1) = true;",
+            "s2 = true | s3 = true;",
+            "s2 = true | s0(s1) = true;",
+        ] {
+            let one = format!(in alloc; "{half} = true | {rest}")?;
+            want.push_str(one.as_str())?;
+        }
+    }
+    assert!(rt; plus.as_str() == want.as_str());
+    let minus = given(alloc, ground(alloc, 10)?, true, true)?;
+    assert!(rt; minus.as_str() == "s2 != true | s3 != true;s3 != true | s0(s1) != true;");
     Ok(())
 }
 
@@ -360,6 +450,42 @@ fn gives_the_clauses_of_quantified_formulas(rt: HostRuntime) -> Result<(), Fail>
             true,
             "s0(A0) = true;s0(A0) != true;",
             "s0(N0) = true;s0(N0) != true;",
+        ),
+    ] {
+        let plain = given(alloc, quantified(alloc, row)?, conjectured, false)?;
+        assert!(rt; plain.as_str() == without, "row {row}, {conjectured}");
+        let ordinary = given(alloc, quantified(alloc, row)?, conjectured, true)?;
+        assert!(rt;
+            ordinary.as_str() == with,
+            "row {row}, {conjectured}, ordinary"
+        );
+    }
+    Ok(())
+}
+
+// the same over a product, over symbols that are foreground by their arguments alone, over variables that don't
+// occur, and of an equivalence
+#[test]
+fn gives_the_clauses_over_skolem_functions(rt: HostRuntime) -> Result<(), Fail> {
+    let alloc = rt.alloc();
+    for (row, conjectured, without, with) in [
+        (9, false, "(A0 + 1) <= (2 * A0);", "(A0 + 1) <= (2 * A0);"),
+        (9, true, "(2 * s4) <= s4;", "(2 * s4) <= s4;"),
+        (10, false, "(A0 + 1) <= s4(A0);", "(N0 + 1) <= s4(N0);"),
+        (10, true, "A0 <= s4;", "A0 <= s4;"),
+        (11, false, "s0(s4(X0,A1)) = true;", "s0(s4(X0,N1)) = true;"),
+        (11, true, "s0(A0) != true;", "s0(N0) != true;"),
+        (
+            12,
+            false,
+            "s0(A0) != true | s0(s4) = true;s0(A0) != true | s0(s5) = true;",
+            "s0(N0) != true | s0(s4) = true;s0(N0) != true | s0(s5) = true;",
+        ),
+        (
+            12,
+            true,
+            "s0(s4) = true | s0(s5) = true;s0(s4) = true | s0(A0) != true;s0(A0) != true | s0(s5) = true;s0(A0) != true | s0(A1) != true;",
+            "s0(s4) = true | s0(s5) = true;s0(s4) = true | s0(N0) != true;s0(N0) != true | s0(s5) = true;s0(N0) != true | s0(N1) != true;",
         ),
     ] {
         let plain = given(alloc, quantified(alloc, row)?, conjectured, false)?;

@@ -1,8 +1,9 @@
+use crate::table_tests::clauses_text;
 use crate::{ClausesError, clauses, count};
 use formula_base::{Formula, Problem};
 use sqlite_items::Items;
 use std::alloc::{AllocError, Global};
-use term_base::{Name, Prepared, Sort, Sorts, Symbol, Term, Variable};
+use term_base::{Name, Sort, Sorts, Symbol, Term, Variable};
 
 fn symbol(alloc: Global, name: &[u8], args: &[Sort], sort: Sort) -> Result<Symbol, AllocError> {
     Ok(Symbol::new(
@@ -85,45 +86,25 @@ fn nested(alloc: Global, depth: usize) -> Result<Problem, AllocError> {
     problem(alloc, formula, None)
 }
 
-pub(crate) fn text(alloc: Global, prepared: &Prepared) -> Result<String, AllocError> {
-    let mut all = String::new(alloc);
-    for clause in prepared.clauses.as_slice() {
-        for literal in clause.literals.as_slice() {
-            let one = format!(in alloc; "{literal:?} ")?;
-            all.push_str(one.as_str())?;
-        }
-        all.push_str("; ")?;
-    }
-    Ok(all)
-}
-
-// p(X0) != true | s4(X0) + 1 <= X0, then X0 <= X1 | p(X0) = true, then p(c) != true, with variables of this kind
-fn bounded_clauses(alloc: Global, kind: &str) -> Result<String, AllocError> {
-    let x = format!(in alloc; "Var(Variable {{ kind: {kind}, sort: Int, id: 0 }})")?;
-    let y = format!(in alloc; "Var(Variable {{ kind: {kind}, sort: Int, id: 1 }})")?;
-    let p = format!(in alloc; "App(0, Items {{ items: [{x}] }})")?;
-    let bound = format!(in alloc; "App(4, Items {{ items: [{x}] }})")?;
-    let first = format!(in alloc;
-        "Differ({p}, True) AtMost(Sum(Boxed {{ inner: {bound} }}, Boxed {{ inner: Num(1) }}), {x}) ; "
-    )?;
-    let second = format!(in alloc; "AtMost({x}, {y}) Equal({p}, True) ; ")?;
-    format!(in alloc;
-        "{first}{second}Differ(App(0, Items {{ items: [App(1, Items {{ items: [] }})] }}), True) ; "
-    )
-}
-
 #[test]
 fn gives_the_clauses_of_an_equivalence(rt: HostRuntime) {
     let alloc = rt.alloc();
     let problem = bounded(alloc).expect(&rt, "memory");
     assert_eq!(rt; count(&problem), 3);
-    for (ordinary, kind) in [(false, "Abstraction"), (true, "Ordinary")] {
+    for (ordinary, want) in [
+        (
+            false,
+            "s0(A0) != true | (s4(A0) + 1) <= A0;A0 <= A1 | s0(A0) = true;s0(s1) != true;",
+        ),
+        (
+            true,
+            "s0(N0) != true | (s4(N0) + 1) <= N0;N0 <= N1 | s0(N0) = true;s0(s1) != true;",
+        ),
+    ] {
         let prepared = clauses(alloc, &problem, ordinary).expect(&rt, "clauses");
-        let given = text(alloc, &prepared).expect(&rt, "memory");
-        let want = bounded_clauses(alloc, kind).expect(&rt, "memory");
-        assert!(rt; given.as_str() == want.as_str());
+        let given = clauses_text(alloc, prepared.clauses.as_slice()).expect(&rt, "memory");
+        assert!(rt; given.as_str() == want);
         assert_eq!(rt; prepared.symbols.len(), 5);
-        assert_eq!(rt; prepared.clauses.len(), 3);
     }
 }
 

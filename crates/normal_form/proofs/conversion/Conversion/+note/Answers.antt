@@ -1,7 +1,7 @@
 use Rattle.std.proofs.Common.{◌≡◌, ◌++◌, false, length, rules, sym, ◌∙◌}
 use Rattle.std.proofs.lemmas.List.{append-nil}
 use Rattle.formula_base.specs.declared.formulas.Formula.TheVariants.{Implies, Iff}
-use Rattle.normal_form.specs.Quantifiers.{is_quantified}
+use Rattle.normal_form.proofs.Quantifiers.{is_quantified}
 use Rattle.normal_form.specs.Cnf.{cnf}
 use Rattle.normal_form.proofs.Silent.{silent}
 use Rattle.normal_form.proofs.Measures.{told_quantified}
