@@ -1,0 +1,4 @@
+pub mod Abstracted
+pub mod Abstraction
+pub mod Names
+pub mod Targets

@@ -1,0 +1,13 @@
+//! Weak abstraction: the terms of integer arithmetic beside and below foreground symbols give way
+//! to new variables.
+#![tactic(auto)]
+
+mod abstracting;
+mod conditions;
+mod finding;
+mod naming;
+mod replacing;
+#[cfg(test)]
+mod tests;
+
+pub use abstracting::abstracted;
