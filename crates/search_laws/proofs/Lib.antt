@@ -1,0 +1,17 @@
+pub mod Ranges
+pub mod Occurring
+pub mod Choices
+pub mod Visits
+pub mod LeastChildren
+pub mod Closing
+pub mod Variables
+pub mod CompleteRows
+pub mod GroundFacts
+pub mod Counts
+pub mod GroundRows
+pub mod Solutions
+pub mod Satisfying
+pub mod PoolValues
+pub mod FoundValues
+pub mod Right
+pub mod Worked
