@@ -1,0 +1,10 @@
+//! Judges of pools: what they are asked, and what their answers promise.
+#![tactic(auto)]
+
+mod judges;
+#[cfg(test)]
+mod tests;
+mod verdicts;
+
+pub use judges::{Judge, MAX_DEPTH};
+pub use verdicts::{Query, Verdict, Why};
