@@ -1,5 +1,7 @@
 pub mod Classes
 pub mod Clauses
+pub mod Known
+pub mod KnownLemmas
 pub mod LitLemmas
 pub mod Lits
 pub mod Nodes

@@ -20,7 +20,7 @@ pub use applying::{apply, apply_clause, apply_literal};
 pub use clauses::{Clause, Literal, copy_literals};
 pub use names::Name;
 pub use places::{Path, Place, Side};
-pub use placing::{at, child, has_place, place_term, replace_at, side_of};
+pub use placing::{at, child, has_place, place_term, replace_at, replace_in_literal, side_of};
 pub use preparation::{Prepared, TooMany};
 pub use purities::{has_foreground, is_background, is_foreground, is_simple, purity};
 pub use sorting::{is_well_sorted_term, sort_of, well_sorted};

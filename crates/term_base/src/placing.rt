@@ -96,11 +96,11 @@ fn put_among(
     Ok(all)
 }
 
-fn put(alloc: Global, t: &Term, path: &[u32], new: &Term) -> Result<Term, AllocError>
-    ensures { IfOk result (λ r. tree r ≡ spec.put_at path.now (tree new.now) (tree t.now)) }
+fn put(alloc: Global, t: &Term, path: &[u32], new: Term) -> Result<Term, AllocError>
+    ensures { IfOk result (λ r. tree r ≡ spec.put_at path.now (tree new) (tree t.now)) }
 {
     match path {
-        [] => new.copy(alloc),
+        [] => Ok(new),
         [number, rest @ ..] => match t {
             Term::Var(_) | Term::Num(_) | Term::True => t.copy(alloc),
             Term::Sum(a, b) => match *number {
@@ -132,9 +132,9 @@ fn put_side(
     l: &Literal,
     side: Side,
     path: &[u32],
-    new: &Term,
+    new: Term,
 ) -> Result<Literal, AllocError>
-    ensures { IfOk result (λ r. lit r ≡ spec.with_side side (spec.put_at path.now (tree new.now) (spec.named side (lit l.now))) (lit l.now)) }
+    ensures { IfOk result (λ r. lit r ≡ spec.with_side side (spec.put_at path.now (tree new) (spec.named side (lit l.now))) (lit l.now)) }
 {
     match side {
         Side::Left => match l {
@@ -146,6 +146,31 @@ fn put_side(
             Literal::Equal(a, b) => Ok(Literal::Equal(a.copy(alloc)?, put(alloc, b, path, new)?)),
             Literal::Differ(a, b) => Ok(Literal::Differ(a.copy(alloc)?, put(alloc, b, path, new)?)),
             Literal::AtMost(a, b) => Ok(Literal::AtMost(a.copy(alloc)?, put(alloc, b, path, new)?)),
+        },
+    }
+}
+
+/// The literal with another term at the end of a path into one of its sides; the literal as it is where the side
+/// does not have the path. The other side is moved; of this one what stays is copied.
+pub fn replace_in_literal(
+    alloc: Global,
+    l: Literal,
+    side: Side,
+    path: &[u32],
+    t: Term,
+) -> Result<Literal, AllocError>
+    ensures { IfOk result (λ r. lit r ≡ spec.with_side side (spec.put_at path.now (tree t) (spec.named side (lit l))) (lit l)) }
+{
+    match side {
+        Side::Left => match l {
+            Literal::Equal(a, b) => Ok(Literal::Equal(put(alloc, &a, path, t)?, b)),
+            Literal::Differ(a, b) => Ok(Literal::Differ(put(alloc, &a, path, t)?, b)),
+            Literal::AtMost(a, b) => Ok(Literal::AtMost(put(alloc, &a, path, t)?, b)),
+        },
+        Side::Right => match l {
+            Literal::Equal(a, b) => Ok(Literal::Equal(a, put(alloc, &b, path, t)?)),
+            Literal::Differ(a, b) => Ok(Literal::Differ(a, put(alloc, &b, path, t)?)),
+            Literal::AtMost(a, b) => Ok(Literal::AtMost(a, put(alloc, &b, path, t)?)),
         },
     }
 }
@@ -180,7 +205,8 @@ pub fn replace_at(
     let number = place.literal as usize;
     match c.literals.get(number) {
         Some(literal) => {
-            let new = put_side(alloc, literal, place.side, place.path.as_slice(), t)?;
+            let copied = t.copy(alloc)?;
+            let new = put_side(alloc, literal, place.side, place.path.as_slice(), copied)?;
             Ok(Clause {
                 literals: put_literal(alloc, c.literals.as_slice(), number, new)?,
             })

@@ -228,6 +228,21 @@ fn a_summand_is_replaced(rt: HostRuntime) -> Result<(), Fail> {
     Ok(())
 }
 
+// 3 for 1 in A0 + 1 <= 1, the literal moved, and for nothing at a path that it doesn't have
+#[test]
+fn a_moved_literal_changes(rt: HostRuntime) -> Result<(), Fail> {
+    let alloc = rt.alloc();
+    let old = Literal::AtMost(Term::sum(alloc, a0(), Term::Num(1))?, Term::Num(1));
+    let new = Literal::AtMost(Term::sum(alloc, a0(), Term::Num(3))?, Term::Num(1));
+    let l = replace_in_literal(alloc, old, Side::Left, &[1], Term::Num(3))?;
+    assert!(rt; l.same(&new));
+    let l = replace_in_literal(alloc, l, Side::Right, &[0], Term::Num(5))?;
+    assert!(rt; l.same(&new));
+    let l = replace_in_literal(alloc, l, Side::Right, &[], Term::Num(5))?;
+    assert!(rt; is_number(Some(side_of(&l, Side::Right)), 5));
+    Ok(())
+}
+
 // 3 for 0 in s0(0) <= 1
 #[test]
 fn an_argument_is_replaced(rt: HostRuntime) -> Result<(), Fail> {

@@ -14,11 +14,13 @@ returns-in_ok-put_literal-in-Some c =
     let new = c.in_ok-new-in-Some.new in
     let there : slice_get ls p.literal ≡ Some c.in-Some.literal.now = sym c.get.ensures.value ∙ ap option_copied c.in-Some.is in
     let made : c.in_ok-put_literal-in-Some.field-0 ≡ take p.literal ls ++ (new ∷ drop (p.literal + 1) ls) = rw (← c.as_slice-in-Some.ensures) c.in_ok-put_literal-in-Some.ensures in
-    let put : lit new ≡ put_place p (tree c.args.t.now) (lit c.in-Some.literal.now) = rw (← c.as_slice.ensures) c.in_ok-new-in-Some.ensures in
+    let copied = c.in_ok-copied-in-Some.copied in
+    let put_copied : lit new ≡ put_place p (tree copied) (lit c.in-Some.literal.now) = rw (← c.as_slice.ensures) c.in_ok-new-in-Some.ensures in
+    let put : lit new ≡ put_place p (tree c.args.t.now) (lit c.in-Some.literal.now) = put_copied ∙ ap (λ x. put_place p (tree x) (lit c.in-Some.literal.now)) c.in_ok-copied-in-Some.ensures in
     ap (map lit) made ∙ replaced-lits c.args.c.now p c.in-Some.literal.now new (tree c.args.t.now) there c.in-Some.ensures.within put
 
 pub returns-in-None : goal.returns-in-None
 returns-in-None c =
     let p = c.args.place.now in
-    same-lits c.copy.result c.args.c.now (replaced (lits c.args.c.now) p (tree c.args.t.now)) c.copy.ensures
+    same-lits c.copy-in-None.result c.args.c.now (replaced (lits c.args.c.now) p (tree c.args.t.now)) c.copy-in-None.ensures
     (sym (replaced-lits-none c.args.c.now p (tree c.args.t.now) (sym c.get.ensures.value ∙ ap option_copied c.in-None.is)))
