@@ -6,3 +6,4 @@ pub mod MultisetLemmas
 pub mod PartLemmas
 mod Rows
 pub mod StandingLemmas
+pub mod VariableLemmas

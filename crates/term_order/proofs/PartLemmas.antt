@@ -3,15 +3,15 @@ use Rattle.std.proofs.Common.{◌≡◌, ℕ, zero, suc, ◌<◌, ◌≤◌, ◌
 use Rattle.term_base.specs.declared.symbols.Symbol.{Symbol}
 use Rattle.term_base.specs.declared.terms.Term.{Term}
 use Rattle.term_base.specs.declared.terms.Term.TheVariants.{App}
-use Rattle.term_base.specs.Purity.{foreground}
 use Rattle.term_base.specs.TreeOf.{tree-App}
 use Rattle.term_base.specs.Trees.{Head, Tree, Trees, var, node, none, more, tree, trees, same_tree, same_head}
 use Rattle.term_base.specs.TreeLemmas.{both_ways, same_head-refl}
 use Rattle.term_order.specs.Standing.{above_if, is_above, reaches, by_standing, some_reaches, above_all, list_standing, standing, standings}
-use Rattle.term_order.specs.Parts.{equal_if, is_variable, is_abstraction, arguments, behind, has_smaller_head, has_same_head, some_of, above_each, by_lists}
+use Rattle.term_order.specs.Parts.{equal_if, is_variable, above_variable, arguments, behind, has_smaller_head, has_same_head, some_of, above_each, by_lists}
 use Rattle.term_order.specs.declared.standing.Standing.{Standing}
 use Rattle.term_order.specs.declared.standing.Standing.TheVariants as is
 use Rattle.term_order.proofs.HeadLemmas.{heads_total}
+use Rattle.term_order.proofs.VariableLemmas.{over}
 
 -- the terms without the first n, as trees
 pub behind-trees : (n : ℕ) (ts : List Term) → behind n (trees (map tree ts)) ≡ trees (map tree (drop n ts))
@@ -95,11 +95,10 @@ module _ (S : List Symbol) where
   of_variable (var v) t h = refl
   of_variable (node f xs) t h = absurd (both_ways true refl h)
 
-  pub over_variable : (s t : Tree) → false ≡ is_variable s → true ≡ is_variable t
-      → standing S s t ≡ above_if ((is_abstraction t && foreground S s) || some_of S (arguments s) t)
+  pub over_variable : (s t : Tree) → false ≡ is_variable s → true ≡ is_variable t → standing S s t ≡ above_if (above_variable S s t)
   over_variable (var v) t h k = absurd (both_ways true refl (sym h))
   over_variable (node f xs) (node g ys) h k = absurd (both_ways true refl k)
-  over_variable (node f xs) (var v) h k = ap (λ b. above_if ((is_abstraction (var v) && foreground S (node f xs)) || b)) (some-of xs (var v))
+  over_variable (node f xs) (var v) h k = ap above_if (over S v f xs)
 
   pub of_smaller : (s t : Tree) → true ≡ has_smaller_head S s t → standing S s t ≡ above_if (some_of S (arguments s) t)
   of_smaller (var v) t h = absurd (both_ways true refl h)

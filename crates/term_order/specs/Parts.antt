@@ -2,7 +2,7 @@
 use Rattle.std.specs.Prelude.{ℕ, zero, suc, Bool, true, false, ◌||◌, ◌&&◌, if◌then◌else◌, List}
 use Rattle.term_base.specs.declared.symbols.Symbol.{Symbol}
 use Rattle.term_base.specs.Purity as Purity
-use Rattle.term_base.specs.Trees.{Tree, Trees, var, node, none, more, symbol, same_head}
+use Rattle.term_base.specs.Trees.{Tree, Trees, var, node, none, more, symbol, same_head, occurs}
 use Rattle.term_order.specs.Above.{rank, head_below}
 use Rattle.term_order.specs.Standing.{above_if, is_above, reaches, by_standing, standing}
 use Rattle.term_order.specs.declared.standing.Standing.{Standing}
@@ -21,6 +21,15 @@ is_variable (node f xs) = false
 abbrev pub is_abstraction : Tree → Bool
 is_abstraction (var v) = Purity.is_abstraction v
 is_abstraction (node f xs) = false
+
+-- t is a variable that is in s
+abbrev pub has_variable : Tree → Tree → Bool
+has_variable s (var v) = occurs v s
+has_variable s (node f xs) = false
+
+-- t is a variable, and s, where it is none, is above it: t is for pure terms and s has a foreground symbol, or t is in s
+abbrev pub above_variable : List Symbol → Tree → Tree → Bool
+above_variable signature s t = (is_abstraction t && Purity.foreground signature s) || has_variable s t
 
 -- a symbol with arguments
 abbrev pub is_application : Tree → Bool

@@ -2,7 +2,9 @@
 //!
 //! The four cases of the order, tried one after the other, take time that is exponential in the depth of the
 //! terms. Here a smaller head leaves case 2 alone, a larger one case 3 alone, and equal heads the first place
-//! where the arguments differ: so each pair of places of the two terms is looked at once at most.
+//! where the arguments differ: so each pair of places of the two terms is looked at once at most. Against a variable
+//! a term is gone over twice at most, for a foreground symbol and for the variable. So the time is at most
+//! proportional to the product of the sizes of the two terms.
 
 ghost use Rattle.std.specs.Prelude.{◌≡◌, ◌&&◌, true};
 ghost use Rattle.term_base.specs.Trees.{tree, node, none, number};
@@ -11,6 +13,7 @@ ghost use Rattle.term_order.specs.Standing as spec;
 ghost use Rattle.term_order.specs.Parts as part;
 
 use crate::heads::{has_smaller_head, is_number_below};
+use crate::occurring::occurs;
 use crate::standing::Standing;
 use term_base::{Kind, Symbol, Term, has_foreground};
 
@@ -40,6 +43,23 @@ fn covers(signature: &[Symbol], s: &Term, t: &Term) -> bool
     is_abstraction(t) && has_foreground(signature, s)
 }
 
+/// Whether the second term is a variable that is in the first.
+fn has_variable(s: &Term, t: &Term) -> bool
+    ensures { result ≡ part.has_variable (tree s.now) (tree t.now) }
+{
+    match t {
+        Term::Var(v) => occurs(*v, s),
+        _ => false,
+    }
+}
+
+/// Whether the second term is a variable, and the first, which is none, is above it.
+fn is_above_variable(signature: &[Symbol], s: &Term, t: &Term) -> bool
+    ensures { result ≡ part.above_variable signature.now (tree s.now) (tree t.now) }
+{
+    covers(signature, s, t) || has_variable(s, t)
+}
+
 /// Whether a number equals a term or is above it.
 fn number_reaches(k: &i128, t: &Term) -> bool
     ensures { (signature : _) → result ≡ spec.reaches (spec.standing signature (node (number k.now) none) (tree t.now)) }
@@ -60,10 +80,7 @@ pub fn standing(signature: &[Symbol], s: &Term, t: &Term) -> Standing
         return Standing::equal_if(s == t);
     }
     if is_variable(t) {
-        if covers(signature, s, t) {
-            return Standing::Above;
-        }
-        return Standing::above_if(some_argument(signature, s, t));
+        return Standing::above_if(is_above_variable(signature, s, t));
     }
     if has_smaller_head(signature, s, t) {
         return Standing::above_if(some_argument(signature, s, t));

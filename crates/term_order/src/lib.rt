@@ -5,6 +5,7 @@ mod deciding;
 mod heads;
 pub mod laws;
 mod literals;
+mod occurring;
 mod orders;
 mod standing;
 #[cfg(test)]

@@ -20,8 +20,7 @@ pub enum Order {
 }
 
 /// The order of two terms over a signature, exactly by the four cases of the order. A symbol's number past the
-/// signature is that of a parameter. In each direction every pair of places of the two terms is looked at once
-/// at most.
+/// signature is that of a parameter. The time is at most proportional to the product of the sizes of the two terms.
 pub fn compare(signature: &[Symbol], s: &Term, t: &Term) -> Order
     ensures above { (result ≡ answer.Above) ↔ Above signature.now (tree s.now) (tree t.now) }
     ensures below { (result ≡ answer.Below) ↔ Above signature.now (tree t.now) (tree s.now) }

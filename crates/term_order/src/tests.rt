@@ -169,26 +169,23 @@ fn arguments_below(rt: HostRuntime) -> Result<(), Fail> {
     Ok(())
 }
 
-// s0(s0(0)) is above s0(A1) by case 1 below the equal heads; s0(0) isn't
+// s0(s0(0)) is above s0(A1), by case 1 below the equal heads
 #[test]
 fn equal_heads(rt: HostRuntime) -> Result<(), Fail> {
     let symbols = signature(rt.alloc())?;
-    let s = symbols.as_slice();
-    let over_abstraction = unary(rt.alloc(), 0, abstraction(1))?;
-    compares(
-        &rt,
-        s,
-        &tower(rt.alloc(), 2, Term::Num(0))?,
-        &over_abstraction,
-        Order::Above,
-    );
-    compares(
-        &rt,
-        s,
-        &tower(rt.alloc(), 1, Term::Num(0))?,
-        &over_abstraction,
-        Order::Open,
-    );
+    let first = tower(rt.alloc(), 2, Term::Num(0))?;
+    let second = unary(rt.alloc(), 0, abstraction(1))?;
+    compares(&rt, symbols.as_slice(), &first, &second, Order::Above);
+    Ok(())
+}
+
+// s0(0) isn't
+#[test]
+fn equal_heads_over_a_number(rt: HostRuntime) -> Result<(), Fail> {
+    let symbols = signature(rt.alloc())?;
+    let first = tower(rt.alloc(), 1, Term::Num(0))?;
+    let second = unary(rt.alloc(), 0, abstraction(1))?;
+    compares(&rt, symbols.as_slice(), &first, &second, Order::Open);
     Ok(())
 }
 
@@ -204,65 +201,61 @@ fn products_above_sums(rt: HostRuntime) -> Result<(), Fail> {
     Ok(())
 }
 
-// 2 * A0 and -2 * A0, 2 * A0 and 2 * A1, A0 + 2 and A0 + 1, A0 + 2 and A1 + 1
+// k * A0 and m * the abstraction variable of a number
+fn products_compare(
+    rt: &impl Abort,
+    alloc: Global,
+    k: i128,
+    m: i128,
+    id: u32,
+    order: Order,
+) -> Result<(), AllocError> {
+    let symbols = signature(alloc)?;
+    let first = Term::scale(alloc, k, abstraction(0))?;
+    let second = Term::scale(alloc, m, abstraction(id))?;
+    compares(rt, symbols.as_slice(), &first, &second, order);
+    Ok(())
+}
+
 #[test]
 fn first_difference_of_products(rt: HostRuntime) -> Result<(), Fail> {
-    let symbols = signature(rt.alloc())?;
-    let s = symbols.as_slice();
-    let product = Term::scale(rt.alloc(), 2, abstraction(0))?;
-    compares(
-        &rt,
-        s,
-        &product,
-        &Term::scale(rt.alloc(), -2, abstraction(0))?,
-        Order::Below,
-    );
-    compares(
-        &rt,
-        s,
-        &product,
-        &Term::scale(rt.alloc(), 2, abstraction(1))?,
-        Order::Open,
-    );
+    products_compare(&rt, rt.alloc(), 2, -2, 0, Order::Below)?;
+    products_compare(&rt, rt.alloc(), 2, 2, 1, Order::Open)?;
+    Ok(())
+}
+
+// A0 + 2 and the sum of the abstraction variable of a number and 1
+fn sums_compare(rt: &impl Abort, alloc: Global, id: u32, order: Order) -> Result<(), AllocError> {
+    let symbols = signature(alloc)?;
+    let first = Term::sum(alloc, abstraction(0), Term::Num(2))?;
+    let second = Term::sum(alloc, abstraction(id), Term::Num(1))?;
+    compares(rt, symbols.as_slice(), &first, &second, order);
     Ok(())
 }
 
 #[test]
 fn first_difference_of_sums(rt: HostRuntime) -> Result<(), Fail> {
-    let symbols = signature(rt.alloc())?;
-    let s = symbols.as_slice();
-    let sum = Term::sum(rt.alloc(), abstraction(0), Term::Num(2))?;
-    compares(
-        &rt,
-        s,
-        &sum,
-        &Term::sum(rt.alloc(), abstraction(0), Term::Num(1))?,
-        Order::Above,
-    );
-    compares(
-        &rt,
-        s,
-        &sum,
-        &Term::sum(rt.alloc(), abstraction(1), Term::Num(1))?,
-        Order::Open,
-    );
+    sums_compare(&rt, rt.alloc(), 0, Order::Above)?;
+    sums_compare(&rt, rt.alloc(), 1, Order::Open)?;
     Ok(())
 }
 
-// s3(s0(0), 0) and s3(0, s0(s0(0))): the first place decides, and s0(s0(0)) has a smaller head
+// s3(s0(0), 0)
+fn high_and_zero(alloc: Global) -> Result<Term, AllocError> {
+    binary(alloc, tower(alloc, 1, Term::Num(0))?, Term::Num(0))
+}
+
+// s3(0, s0(s0(0)))
+fn zero_and_higher(alloc: Global) -> Result<Term, AllocError> {
+    binary(alloc, Term::Num(0), tower(alloc, 2, Term::Num(0))?)
+}
+
+// the first place decides, and s0(s0(0)) has a smaller head
 #[test]
 fn first_difference_decides(rt: HostRuntime) -> Result<(), Fail> {
     let symbols = signature(rt.alloc())?;
-    let first = binary(
-        rt.alloc(),
-        tower(rt.alloc(), 1, Term::Num(0))?,
-        Term::Num(0),
-    )?;
-    let second = binary(
-        rt.alloc(),
-        Term::Num(0),
-        tower(rt.alloc(), 2, Term::Num(0))?,
-    )?;
+    let first = high_and_zero(rt.alloc())?;
+    let second = zero_and_higher(rt.alloc())?;
     compares(&rt, symbols.as_slice(), &first, &second, Order::Above);
     Ok(())
 }
@@ -277,12 +270,17 @@ fn rest_counts(rt: HostRuntime) -> Result<(), Fail> {
     Ok(())
 }
 
+// f(g(0))
+fn unary_over_unary(alloc: Global, f: u32, g: u32) -> Result<Term, AllocError> {
+    unary(alloc, f, unary(alloc, g, Term::Num(0))?)
+}
+
 // s0(s4(0)) and s4(s0(0)): s4 is above s0
 #[test]
 fn larger_heads(rt: HostRuntime) -> Result<(), Fail> {
     let symbols = signature(rt.alloc())?;
-    let first = unary(rt.alloc(), 0, unary(rt.alloc(), 4, Term::Num(0))?)?;
-    let second = unary(rt.alloc(), 4, unary(rt.alloc(), 0, Term::Num(0))?)?;
+    let first = unary_over_unary(rt.alloc(), 0, 4)?;
+    let second = unary_over_unary(rt.alloc(), 4, 0)?;
     compares(&rt, symbols.as_slice(), &first, &second, Order::Below);
     Ok(())
 }
@@ -311,6 +309,25 @@ fn a_higher_tower(rt: HostRuntime) -> Result<(), Fail> {
     let symbols = signature(rt.alloc())?;
     let first = tower(rt.alloc(), 500, Term::Num(0))?;
     let second = tower(rt.alloc(), 499, Term::Num(0))?;
+    compares(&rt, symbols.as_slice(), &first, &second, Order::Above);
+    Ok(())
+}
+
+// (A1999 + .. (A1 + (A0 + 0)))
+fn sum_of_variables(alloc: Global) -> Result<Term, AllocError> {
+    let mut sum = Term::Num(0);
+    for i in 0..2000u32 {
+        sum = Term::sum(alloc, abstraction(i), sum)?;
+    }
+    Ok(sum)
+}
+
+// to search the product anew at each variable and each level would take billions of looks
+#[test]
+fn many_variables(rt: HostRuntime) -> Result<(), Fail> {
+    let symbols = signature(rt.alloc())?;
+    let first = Term::scale(rt.alloc(), 2, sum_of_variables(rt.alloc())?)?;
+    let second = sum_of_variables(rt.alloc())?;
     compares(&rt, symbols.as_slice(), &first, &second, Order::Above);
     Ok(())
 }

@@ -16,6 +16,7 @@ use Rattle.unifier.specs.Unifiers.{occurs_or, IsMostGeneral, NoUnifier, IsMostGe
 use Rattle.unifier.proofs.KindLemmas.{IsForced, IsRenaming, named_by, none_foreground, answer_general, general_same}
 use Rattle.unifier.proofs.PairLemmas.{IsApart, no_pair_unsorted, no_pair_foreground, pair_general, pair_same}
 use Rattle.unifier.proofs.RaisingLemmas.{raised_none, lowered, is_raised, raised_apart}
+use Rattle.unifier.proofs.VariableLemmas.{or_none}
 use Rattle.unifier.proofs.NamingLemmas.{old_name, is_renaming, forced_before, forced_own, forced_only, known_before, known_own, plain_own, not_plain, BackgroundLaw, forced_integers}
 
 -- V has the variables of the first list, and those of the second with raised numbers
@@ -104,6 +105,15 @@ of_none {A} o P is h = subst (λ (p : Option A). IfNone p P) is h
 named_first : (forced known : List Variable) (found : List (Variable × Term)) (list : List Variable) (v : Variable)
     → named forced known found 0 list v ≡ (if has list v then named_by (image found) (new_name forced known) v else var v)
 named_first forced known found list v = ap (λ x. if has list v then renamed forced known (image found x) else var v) (raised_none v)
+
+-- a variable of no list stays
+pub other_named : (forced known : List Variable) (found : List (Variable × Term)) (base : ℕ) (list : List Variable) (V : Variable → Bool)
+    → ((v : Variable) → has list v ≡ true → V v ≡ true) → (s : Variable → Tree)
+    → ((v : Variable) → s v ≡ named forced known found base list v) → (v : Variable) → V v ≡ false → s v ≡ var v
+other_named forced known found base list V back s is v out = elim (true_or_false (has list v)) [
+  | inl h ↦ absurd (both_ways (V v) (back v h) out)
+  | inr h ↦ (let kept : named forced known found base list v ≡ var v = rw h refl in is v ∙ kept)
+]
 
 -- one premise: the variables are those of one list
 module _ (law : BackgroundLaw) (S : List Symbol) (l u : Tree) (list : List Variable) (found : List (Variable × Term))
@@ -239,3 +249,35 @@ pair_alone (Ok None) S l u h = tt
 pair_alone (Ok (Some p)) S l u h =
     pair_same S (occurs_or l []) (occurs_or u []) (λ v. occurs v l) (λ v. occurs v u) l u (image p.0) (image p.1) (image p.0) (image p.1)
     (λ v. refl) (λ v. refl) (λ v o. or-left (occurs v l) false o) (λ v o. or-left (occurs v u) false o) h
+
+-- one premise, and two: other variables stay
+pub one_others : {E : Type 0} (r : Result (Option (List (Variable × Term))) E) (found : List (Variable × Term)) (list : List Variable) (V : Variable → Bool)
+    → ((v : Variable) → has list v ≡ true → V v ≡ true)
+    → IfOk r (λ o. IfSome o (λ s. (v : Variable) → image s v ≡ named (forced_of (images_of found 0 list) []) (known_of (images_of found 0 list) []) found 0 list v))
+    → IfOk r (λ o. IfSome o (λ s. (v : Variable) → V v ≡ false → image s v ≡ var v))
+one_others (Err e) found list V back is = tt
+one_others (Ok None) found list V back is = tt
+one_others (Ok (Some s)) found list V back is =
+    let left = images_of found 0 list in
+    other_named (forced_of left []) (known_of left []) found 0 list V back (image s) is
+
+pub pair_others : {E : Type 0} (r : Result (Option (List (Variable × Term) × List (Variable × Term))) E) (found : List (Variable × Term)) (base : ℕ)
+    (firsts seconds : List Variable) (V1 V2 : Variable → Bool)
+    → ((v : Variable) → has firsts v ≡ true → V1 v ≡ true) → ((v : Variable) → has seconds v ≡ true → V2 v ≡ true)
+    → IfOk r (λ o. IfSome o (λ p. (v : Variable) → image p.0 v ≡ named (forced_of (images_of found 0 firsts) (images_of found base seconds)) (known_of (images_of found 0 firsts) (images_of found base seconds)) found 0 firsts v))
+    → IfOk r (λ o. IfSome o (λ p. (v : Variable) → image p.1 v ≡ named (forced_of (images_of found 0 firsts) (images_of found base seconds)) (known_of (images_of found 0 firsts) (images_of found base seconds)) found base seconds v))
+    → IfOk r (λ o. IfSome o (λ p. ((v : Variable) → V1 v ≡ false → image p.0 v ≡ var v) × ((v : Variable) → V2 v ≡ false → image p.1 v ≡ var v)))
+pair_others (Err e) found base firsts seconds V1 V2 back1 back2 is1 is2 = tt
+pair_others (Ok None) found base firsts seconds V1 V2 back1 back2 is1 is2 = tt
+pair_others (Ok (Some p)) found base firsts seconds V1 V2 back1 back2 is1 is2 =
+    let F = forced_of (images_of found 0 firsts) (images_of found base seconds) in
+    let K = known_of (images_of found 0 firsts) (images_of found base seconds) in
+    (other_named F K found 0 firsts V1 back1 (image p.0) is1, other_named F K found base seconds V2 back2 (image p.1) is2)
+
+-- no further variables
+pub pair_others_alone : {E : Type 0} (r : Result (Option (List (Variable × Term) × List (Variable × Term))) E) (l u : Tree)
+    → IfOk r (λ o. IfSome o (λ p. ((v : Variable) → occurs_or l [] v ≡ false → image p.0 v ≡ var v) × ((v : Variable) → occurs_or u [] v ≡ false → image p.1 v ≡ var v)))
+    → IfOk r (λ o. IfSome o (λ p. ((v : Variable) → occurs v l ≡ false → image p.0 v ≡ var v) × ((v : Variable) → occurs v u ≡ false → image p.1 v ≡ var v)))
+pair_others_alone (Err e) l u h = tt
+pair_others_alone (Ok None) l u h = tt
+pair_others_alone (Ok (Some p)) l u h = ((λ v o. h.0 v (or_none (occurs v l) ∙ o)), (λ v o. h.1 v (or_none (occurs v u) ∙ o)))

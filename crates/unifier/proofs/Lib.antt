@@ -3,6 +3,7 @@ pub mod DisagreementLemmas
 pub mod GeneralLemmas
 pub mod ImageLemmas
 pub mod KindLemmas
+pub mod KnownLemmas
 pub mod MatchingLemmas
 pub mod NameLemmas
 pub mod NamingLemmas

@@ -1,7 +1,8 @@
 -- Matching: a substitution that makes p into t puts for each variable of p what stands at its place in t.
-use Rattle.std.proofs.Common.{◌≡◌, ◌⊎◌, inl, inr, true, false, List, [], ◌∷◌, ◌++◌, map, refl, ap, sym, ◌∙◌, subst, arith, if◌then◌else◌}
+use Rattle.std.proofs.Common.{◌≡◌, ◌⊎◌, inl, inr, ℕ, ◌≤◌, Bool, true, false, ◌==◌, List, [], ◌∷◌, ◌++◌, map, drop, length, refl, ap, sym, ◌∙◌, subst, arith, if◌then◌else◌}
 use Rattle.std.specs.Prelude.{Result, Ok, Err, IfOk}
 use Rattle.std.proofs.lemmas.Grind.{common_steps}
+use Rattle.std.proofs.lemmas.List.{drop_all}
 use Rattle.term_base.specs.declared.symbols.Symbol.{Symbol}
 use Rattle.term_base.specs.declared.terms.Term.{Term}
 use Rattle.term_base.specs.declared.variables.Variable.{Variable}
@@ -11,8 +12,8 @@ use Rattle.term_base.specs.Purity.{IsPure}
 use Rattle.term_base.specs.Sorting.{sort}
 use Rattle.term_base.specs.Substitution.{image, put_in, put_all, Simple}
 use Rattle.term_base.specs.SubstLemmas.{put_in-agree}
-use Rattle.term_base.specs.Trees.{Head, truth, number, plus, times, symbol, Tree, Trees, var, node, none, more, occurs, any_occurs}
-use Rattle.term_base.specs.TreeLemmas.{true_or_false, both_ways, or-true}
+use Rattle.term_base.specs.Trees.{Head, truth, number, plus, times, symbol, Tree, Trees, var, node, none, more, occurs, any_occurs, trees, tree, same_tree, same_trees}
+use Rattle.term_base.specs.TreeLemmas.{true_or_false, both_ways, or-true, same_tree-refl}
 use Rattle.unifier.specs.Variables.{has, gathered}
 use Rattle.unifier.specs.Naming.{raised, seen, images_of, pick}
 use Rattle.unifier.specs.Pairing.{is_alike, beside, all_beside}
@@ -149,9 +150,22 @@ module _ (S : List Symbol) (p t : Tree) (s r : Variable → Tree) (h : IsOnlyCan
     ];
   }
 
--- a term that differs from t was not made of p by any substitution
-pub match_differs : (S : List Symbol) (p t : Tree) (s : Variable → Tree) (made : Tree) → IsOnlyCandidate p t s → made ≡ put_in s p → ((made ≡ t) → ⊥) → NoMatch S p t
-match_differs S p t s made h is d = λ r simple e. d (is ∙ match_equal S p t s r h e)
+ended_lists : (rest : List Term) → (length rest == 0) ≡ same_trees none (trees (map tree rest))
+ended_lists [] = refl
+ended_lists (y ∷ ys) = grind (arith, common_steps)
+
+-- a list that has ended becomes another exactly where that is empty
+pub each_ended : (empty whole : Bool) (s : Variable → Tree) (xs rest : List Term) (i : ℕ) → length xs ≤ i → empty ≡ (length rest == 0)
+    → whole ≡ same_trees (put_all s (trees (map tree (drop i xs)))) (trees (map tree rest)) → empty ≡ whole
+each_ended empty whole s xs rest i h is before =
+    is ∙ ended_lists rest
+    ∙ ap (λ (l : List Term). same_trees (put_all s (trees (map tree l))) (trees (map tree rest))) (sym (drop_all i xs h))
+    ∙ sym before
+
+-- where the candidate doesn't make p into t, no substitution does
+pub match_differs : (S : List Symbol) (p t : Tree) (s : Variable → Tree) → IsOnlyCandidate p t s → same_tree (put_in s p) t ≡ false → NoMatch S p t
+match_differs S p t s h d = λ r simple e.
+    both_ways (same_tree (put_in s p) t) (ap (λ (x : Tree). same_tree x t) (match_equal S p t s r h e) ∙ same_tree-refl t) d
 
 pub match_not_simple : (S : List Symbol) (p t : Tree) (s : Variable → Tree) → IsOnlyCandidate p t s → (Simple S s → ⊥) → NoMatch S p t
 match_not_simple S p t s h d = λ r simple e. d (match_simple S p t s r h e simple)

@@ -18,12 +18,14 @@ use Rattle.unifier.specs.Sorted.{IsGeneral, NoneSorted}
 use Rattle.unifier.specs.Variables.{has, gathered, without}
 use Rattle.unifier.specs.Search.{HasAll, Member, seen_bound}
 use Rattle.unifier.proofs.GeneralLemmas.{Reached, reached_start, reached_bind, fewer, bound_occurs, agreed, no_clash, no_cyclic, no_sorted}
+use Rattle.unifier.proofs.KnownLemmas.{KeepsKnown, FoundKnown, known_start, known_bound}
 use Rattle.unifier.proofs.VariableLemmas.{has_gathered_own, has_gathered_before}
 
 -- where the search stands: the pairs so far make l0 and u0 into l and u, whose variables the pool has
 pub record Stands (signature : List Symbol) (l0 u0 : Tree) (pairs : List (Variable × Term)) (l u : Term) (pool : List Variable) : Type 0 where
   pub reached : Reached signature l0 u0 (image pairs) (tree l) (tree u)
   pub covered : HasAll pool (tree l) (tree u)
+  pub known : KeepsKnown l0 u0 (image pairs) (tree l) (tree u)
 
 module _ (v : Variable) (new : Term) where
   bound_step : (p b : Variable × Term) (ps bs : List (Variable × Term)) (w : Variable) → seen b ≡ seen_bound v (tree new) p
@@ -90,6 +92,7 @@ module _ (S : List Symbol) (l0 u0 : Tree) where
     reached = reached_same S l0 u0 var (image pairs) l0 u0 (tree l) (tree u) (reached_start S l0 u0)
         (λ v. ap (λ ps. image ps v) empty) (sym p) (sym q);
     covered = covered;
+    known = known_start l0 u0 (image pairs) (tree l) (tree u) p q (λ v. ap (λ ps. image ps v) empty);
   }
 
   pub stands_bound : (pairs : List (Variable × Term)) (l u : Term) (pool : List Variable) → Stands S l0 u0 pairs l u pool
@@ -109,6 +112,7 @@ module _ (S : List Symbol) (l0 u0 : Tree) where
           let f = fewer S (tree l) (tree u) v (tree t) is free w before in
           subst (λ ws. Member ws w) (sym less) (pool_keeps v w pool f.0 (h.covered.each w f.1));
     };
+    known = known_bound l0 u0 (image pairs) (tree l) (tree u) h.known v (tree t) is (image pairs') (tree l') (tree u') p q e;
   }
 
   pub stands_less : (pairs : List (Variable × Term)) (l u : Term) (pool : List Variable) → Stands S l0 u0 pairs l u pool
@@ -123,6 +127,9 @@ module _ (S : List Symbol) (l0 u0 : Tree) where
     sorted = h.reached.sorted;
     general = h.reached.general;
   }
+
+  pub stands_known : (pairs : List (Variable × Term)) (l u : Term) (pool : List Variable) → Stands S l0 u0 pairs l u pool → FoundKnown l0 u0 (image pairs)
+  stands_known pairs l u pool h n a b = (h.known n a b).0
 
   pub stands_clash : (pairs : List (Variable × Term)) (l u : Term) (pool : List Variable) → Stands S l0 u0 pairs l u pool → disagreement (tree l) (tree u) ≡ clash → NoneSorted S l0 u0
   stands_clash pairs l u pool h is r k e = no_clash S l0 u0 (image pairs) (tree l) (tree u) h.reached is r k e

@@ -1,8 +1,9 @@
 //! Matching: to put terms for the variables of one term so that it becomes another.
 
-ghost use Rattle.std.specs.Prelude.{◌≡◌, ◌++◌, false, map, IfOk, IfSome, IfNone, OnOk};
-ghost use Rattle.term_base.specs.Substitution.{image, put_in, Simple};
-ghost use Rattle.term_base.specs.Trees.{tree, trees, occurs, var};
+ghost use Rattle.std.specs.Prelude.{◌≡◌, ◌++◌, ℕ, true, false, map, IfOk, IfSome, IfNone, OnOk};
+ghost use Rattle.term_base.specs.Known.{is_known, KnownImages};
+ghost use Rattle.term_base.specs.Substitution.{image, put_in, put_all, Simple};
+ghost use Rattle.term_base.specs.Trees.{tree, trees, same_tree, same_trees, occurs, var};
 ghost use Rattle.unifier.specs.Naming.{seen};
 ghost use Rattle.unifier.specs.Pairing.{beside, all_beside};
 ghost use Rattle.unifier.specs.Unifiers.{IsOnlyCandidate, NoMatch};
@@ -11,7 +12,7 @@ use crate::images::{images, substitution_of};
 use crate::variables::variables_of;
 use sqlite_items::Items;
 use std::alloc::{AllocError, Global};
-use term_base::{Subst, Symbol, Term, Variable, apply, is_simple};
+use term_base::{Subst, Symbol, Term, Variable, is_simple};
 
 /// Puts the variables of a term behind others, each beside what stands at its place in another
 /// term, as far as the two are alike.
@@ -76,8 +77,69 @@ fn candidate(alloc: Global, p: &Term, t: &Term) -> Result<Subst, AllocError>
     substitution_of(alloc, pairs)
 }
 
+/// Whether a term is what stands for a variable.
+fn is_image(s: &Subst, v: Variable, t: &Term) -> bool
+    ensures { result ≡ same_tree (image s.now v) (tree t.now) }
+{
+    match s.get(v) {
+        Some(found) => *found == *t,
+        None => Term::Var(v) == *t,
+    }
+}
+
+/// Whether a substitution makes the first term into the second. Nothing is written out.
+#[cycle(becomes)]
+fn becomes(s: &Subst, p: &Term, t: &Term) -> bool
+    ensures { result ≡ same_tree (put_in (image s.now) (tree p.now)) (tree t.now) }
+{
+    match p {
+        Term::Var(v) => is_image(s, *v, t),
+        Term::Num(m) => match t {
+            Term::Num(n) => *m == *n,
+            _ => false,
+        },
+        Term::True => match t {
+            Term::True => true,
+            _ => false,
+        },
+        Term::Sum(a, b) => match t {
+            Term::Sum(c, d) => becomes(s, a.get(), c.get()) && becomes(s, b.get(), d.get()),
+            _ => false,
+        },
+        Term::Scale(j, a) => match t {
+            Term::Scale(k, b) => *j == *k && becomes(s, a.get(), b.get()),
+            _ => false,
+        },
+        Term::App(f, xs) => match t {
+            Term::App(g, ys) => *f == *g && each_becomes(s, xs.as_slice(), ys.as_slice()),
+            _ => false,
+        },
+    }
+}
+
+#[cycle(becomes)]
+fn each_becomes(s: &Subst, xs: &[Term], ys: &[Term]) -> bool
+    ensures { result ≡ same_trees (put_all (image s.now) (trees (map tree xs.now)))
+        (trees (map tree ys.now)) }
+{
+    let mut rest = ys;
+    for x in xs {
+        match rest {
+            [] => return false,
+            [y, others @ ..] => {
+                if !becomes(s, x, y) {
+                    return false;
+                }
+                rest = others;
+            }
+        }
+    }
+    rest.is_empty()
+}
+
 /// A simple substitution that makes the first term into the second, and leaves other variables as
-/// they are. None exactly where no simple substitution makes the first term into the second.
+/// they are. Where the symbols of the second term have numbers below a bound, so have those of the
+/// images. None exactly where no simple substitution makes the first term into the second.
 pub fn matches(
     alloc: Global,
     signature: &[Symbol],
@@ -88,11 +150,12 @@ pub fn matches(
     ensures equal { IfOk result (λ o. IfSome o (λ s. put_in (image s) (tree p.now) ≡ tree t.now)) }
     ensures others { IfOk result (λ o. IfSome o (λ s.
         (v : _) → occurs v (tree p.now) ≡ false → image s v ≡ var v)) }
+    ensures known { IfOk result (λ o. IfSome o (λ s.
+        (n : ℕ) → is_known n (tree t.now) ≡ true → KnownImages n (image s))) }
     ensures none { IfOk result (λ o. IfNone o (NoMatch signature.now (tree p.now) (tree t.now))) }
 {
     let s = candidate(alloc, p, t)?;
-    let made = apply(alloc, signature, p, &s)?;
-    if !made.same(t) {
+    if !becomes(&s, p, t) {
         return Ok(None);
     }
     if !is_simple(signature, &s) {

@@ -1,7 +1,8 @@
 //! The search for a most general substitution that keeps sorts (after Robinson 1965). The kinds of
 //! variables play no part in it yet.
 
-ghost use Rattle.std.specs.Prelude.{◌≡◌, ◌↔◌, [], IfOk, IfSome, IfNone, IsTrue, Some};
+ghost use Rattle.std.specs.Prelude.{◌≡◌, ◌↔◌, [], ℕ, true, IfOk, IfSome, IfNone, IsTrue, Some};
+ghost use Rattle.term_base.specs.Known.{is_known, KnownImages};
 ghost use Rattle.term_base.specs.Sorting.{sort};
 ghost use Rattle.term_base.specs.Substitution.{image, put_in, single};
 ghost use Rattle.term_base.specs.Trees.{tree};
@@ -81,6 +82,8 @@ fn solve(
     requires { HasAll pool.items (tree l) (tree u) }
     ensures general { IfOk result (λ o. IfSome o (λ s.
         IsGeneral signature.now (tree l) (tree u) (image s))) }
+    ensures known { IfOk result (λ o. IfSome o (λ s.
+        (n : ℕ) → is_known n (tree l) ≡ true → is_known n (tree u) ≡ true → KnownImages n (image s))) }
     ensures apart { IfOk result (λ o. IfNone o (NoneSorted signature.now (tree l) (tree u))) }
 {
     let pairs = Items::new(alloc);
@@ -122,6 +125,8 @@ pub fn most_general(
 ) -> Result<Option<Items<(Variable, Term)>>, AllocError>
     ensures general { IfOk result (λ o. IfSome o (λ s.
         IsGeneral signature.now (tree l.now) (tree u.now) (image s))) }
+    ensures known { IfOk result (λ o. IfSome o (λ s.
+        (n : ℕ) → is_known n (tree l.now) ≡ true → is_known n (tree u.now) ≡ true → KnownImages n (image s))) }
     ensures apart { IfOk result (λ o. IfNone o
         (NoneSorted signature.now (tree l.now) (tree u.now))) }
 {

@@ -217,7 +217,7 @@ fn abstraction_variables_take_pure_terms(rt: HostRuntime) -> Result<(), Fail> {
     Ok(())
 }
 
-// I0 and N0, N0 and s2, true and N0: their sorts differ; I0 takes s2
+// I0 and N0, N0 and s2: their sorts differ; I0 takes s2
 #[test]
 fn sorts_count(rt: HostRuntime) -> Result<(), Fail> {
     let symbols = signature(rt.alloc())?;
@@ -453,6 +453,26 @@ fn a_variable_is_bound_once(rt: HostRuntime) -> Result<(), Fail> {
     let alike = binary(rt.alloc(), Term::Num(1), Term::Num(1))?;
     no_match(&rt, rt.alloc(), symbols.as_slice(), &pattern, &different)?;
     does_match(&rt, rt.alloc(), symbols.as_slice(), &pattern, &alike)?;
+    Ok(())
+}
+
+// a sum of 1,001 places, nested to the right
+fn sum_of(alloc: Global, part: &Term) -> Result<Term, AllocError> {
+    let mut sum = part.copy(alloc)?;
+    for _ in 0..1000u32 {
+        sum = Term::sum(alloc, part.copy(alloc)?, sum)?;
+    }
+    Ok(sum)
+}
+
+// N0 + (N0 + ..) and S + (1 + ..), where S is a large sum: to write the first out would take millions of nodes
+#[test]
+fn many_places_of_a_variable(rt: HostRuntime) -> Result<(), Fail> {
+    let pattern = sum_of(rt.alloc(), &ordinary(0))?;
+    let first = sum_of(rt.alloc(), &Term::Num(1))?;
+    let rest = sum_of(rt.alloc(), &Term::Num(1))?;
+    let sum = Term::sum(rt.alloc(), first, rest)?;
+    no_match(&rt, rt.alloc(), &[], &pattern, &sum)?;
     Ok(())
 }
 

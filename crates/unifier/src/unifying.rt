@@ -1,8 +1,9 @@
 //! Most general simple substitutions that make two terms equal.
 
-ghost use Rattle.std.specs.Prelude.{◌≡◌, ◌⊎◌, true, false, [], IfOk, IfSome, IfNone};
+ghost use Rattle.std.specs.Prelude.{◌≡◌, ◌⊎◌, ℕ, true, false, [], IfOk, IfSome, IfNone};
+ghost use Rattle.term_base.specs.Known.{is_known, KnownImages};
 ghost use Rattle.term_base.specs.Substitution.{image};
-ghost use Rattle.term_base.specs.Trees.{tree, occurs};
+ghost use Rattle.term_base.specs.Trees.{tree, occurs, var};
 ghost use Rattle.unifier.specs.Naming as spec;
 ghost use Rattle.unifier.specs.Unifiers.{occurs_or, occurs_either_or, IsMostGeneral, NoUnifier};
 ghost use Rattle.unifier.specs.Unifiers.{IsMostGeneralPair, NoPair, IsInImage, AreNumbered};
@@ -65,7 +66,9 @@ fn answer(
 /// term of the first and one of the second equal: they are most general on the variables of the
 /// terms and on those that are given besides for each premise. None exactly where no pair of
 /// simple substitutions makes the terms equal. The variables in the images of all these have the
-/// numbers from 0 on, each its own.
+/// numbers from 0 on, each its own. Other variables stay as they are. Where the symbols of the terms
+/// have numbers below a bound, so have those of the images. Memory counts as spent where the number
+/// after those of the first premise, or a raised one of the second, passes 2^32 - 1.
 pub fn unify_over(
     alloc: Global,
     signature: &[Symbol],
@@ -81,6 +84,12 @@ pub fn unify_over(
     ensures numbered { IfOk result (λ o. IfSome o (λ p. AreNumbered (λ z.
         IsInImage (occurs_or (tree l.now) first.now) (image p.0) z
         ⊎ IsInImage (occurs_or (tree u.now) second.now) (image p.1) z))) }
+    ensures others { IfOk result (λ o. IfSome o (λ p.
+        ((v : _) → occurs_or (tree l.now) first.now v ≡ false → image p.0 v ≡ var v)
+        × ((v : _) → occurs_or (tree u.now) second.now v ≡ false → image p.1 v ≡ var v))) }
+    ensures known { IfOk result (λ o. IfSome o (λ p.
+        (n : ℕ) → is_known n (tree l.now) ≡ true → is_known n (tree u.now) ≡ true
+        → KnownImages n (image p.0) × KnownImages n (image p.1))) }
     ensures none { IfOk result (λ o. IfNone o (NoPair signature.now (tree l.now) (tree u.now))) }
 {
     integers_without_foreground_are_background();
@@ -99,7 +108,9 @@ pub fn unify_over(
 /// Most general simple substitutions, one for each of two premises whose variables are kept apart,
 /// that make a term of the first and one of the second equal, most general on the variables of
 /// both terms. None exactly where no pair of simple substitutions makes the terms equal. The
-/// variables in the images of the terms' variables have the numbers from 0 on, each its own.
+/// variables in the images of the terms' variables have the numbers from 0 on, each its own. Other
+/// variables stay as they are, and the symbols of the images are bounded as `unify_over` says. Memory
+/// counts as spent where it says so.
 pub fn unify(
     alloc: Global,
     signature: &[Symbol],
@@ -112,6 +123,12 @@ pub fn unify(
     ensures numbered { IfOk result (λ o. IfSome o (λ p. AreNumbered (λ z.
         IsInImage (λ v. occurs v (tree l.now)) (image p.0) z
         ⊎ IsInImage (λ v. occurs v (tree u.now)) (image p.1) z))) }
+    ensures others { IfOk result (λ o. IfSome o (λ p.
+        ((v : _) → occurs v (tree l.now) ≡ false → image p.0 v ≡ var v)
+        × ((v : _) → occurs v (tree u.now) ≡ false → image p.1 v ≡ var v))) }
+    ensures known { IfOk result (λ o. IfSome o (λ p.
+        (n : ℕ) → is_known n (tree l.now) ≡ true → is_known n (tree u.now) ≡ true
+        → KnownImages n (image p.0) × KnownImages n (image p.1))) }
     ensures none { IfOk result (λ o. IfNone o (NoPair signature.now (tree l.now) (tree u.now))) }
 {
     unify_over(alloc, signature, l, u, &[], &[])
@@ -142,7 +159,8 @@ fn within(
 /// A most general simple substitution of one premise that makes two of its terms equal: most
 /// general on the variables of the terms and on those that are given besides. None exactly where
 /// no simple substitution makes the terms equal. The variables in the images of all these have the
-/// numbers from 0 on, each its own.
+/// numbers from 0 on, each its own. Other variables stay as they are. Where the symbols of the terms
+/// have numbers below a bound, so have those of the images.
 pub fn unify_within(
     alloc: Global,
     signature: &[Symbol],
@@ -155,6 +173,10 @@ pub fn unify_within(
         (tree l.now) (tree u.now) (image s))) }
     ensures numbered { IfOk result (λ o. IfSome o (λ s. AreNumbered
         (IsInImage (occurs_either_or (tree l.now) (tree u.now) others.now) (image s)))) }
+    ensures others { IfOk result (λ o. IfSome o (λ s. (v : _) →
+        occurs_either_or (tree l.now) (tree u.now) others.now v ≡ false → image s v ≡ var v)) }
+    ensures known { IfOk result (λ o. IfSome o (λ s.
+        (n : ℕ) → is_known n (tree l.now) ≡ true → is_known n (tree u.now) ≡ true → KnownImages n (image s))) }
     ensures none { IfOk result (λ o. IfNone o (NoUnifier signature.now (tree l.now) (tree u.now))) }
 {
     integers_without_foreground_are_background();

@@ -3,6 +3,7 @@ pub mod Choices
 pub mod Different
 pub mod Found
 pub mod Kept
+pub mod KeyLemmas
 pub mod Made
 pub mod NoTarget
 pub mod Numbers

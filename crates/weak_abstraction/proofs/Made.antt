@@ -63,7 +63,6 @@ module _ (S : List Symbol) (c : List Lit) where
     shape = refl;
     kinds = all_stand S first first found are_targets;
     distinct = all_distinct S first found;
-    used = all_used;
     new = all_new S c found;
     apart = all_apart S first found are_targets;
     back = clause_append by (map (replaced_lit S (named S first found)) c) (map definition new_names)
@@ -73,7 +72,11 @@ module _ (S : List Symbol) (c : List Lit) where
 
   pub made_sharing : IsSharing S c (abstracted S c)
   unfolding made_abstraction
-  made_sharing = record { abstraction = made_abstraction; shared = all_terms_differ S first found (all_different (targets S c)) }
+  made_sharing = record {
+    abstraction = made_abstraction;
+    used = all_used;
+    shared = all_terms_differ S first found (all_different (targets S c));
+  }
 
   pub made_no_target : targets S (abstracted S c) ≡ []
   made_no_target = none_clause S first found c (map definition new_names) (none_defined S first first found are_targets)

@@ -45,20 +45,20 @@ abbrev pub put_back : List (Variable × Tree) → Variable → Tree
 put_back [] v = var v
 put_back (p ∷ ps) v = if same_variable p.0 v then p.1 else put_back ps v
 
--- d is c with some terms replaced by new variables, each of which replaces one somewhere, followed by one literal x != t for each;
--- to put each t back for its x gives c and literals t != t
+-- d is c with some terms replaced by new variables, followed by one literal x != t for each variable x and its term t; to put each
+-- t back for its x gives c and literals t != t
 pub record IsAbstraction (signature : List Symbol) (c d : List Lit) : Type 0 where
   pub names : List (Variable × Tree)
   pub body : List Lit
   pub shape : d ≡ body ++ map definition names
   pub kinds : EachName (λ p. StandsFor p.0 (purity signature p.1)) names
   pub distinct : VariablesDiffer names
-  pub used : EachName (λ p. clause_occurs p.0 body ≡ true) names
   pub new : EachName (λ p. clause_occurs p.0 c ≡ false) names
   pub apart : EachName (λ p. EachName (λ q. occurs p.0 q.1 ≡ false) names) names
   pub back : put_clause (put_back names) d ≡ c ++ map from_itself names
 
--- an abstraction in which equal terms share a variable
+-- an abstraction in which each variable stands for a term somewhere, and equal terms share one
 pub record IsSharing (signature : List Symbol) (c d : List Lit) : Type 0 where
   pub abstraction : IsAbstraction signature c d
+  pub used : EachName (λ p. clause_occurs p.0 abstraction.body ≡ true) abstraction.names
   pub shared : TermsDiffer abstraction.names

@@ -1,4 +1,5 @@
 pub mod Abstracted
 pub mod Abstraction
+pub mod Keys
 pub mod Names
 pub mod Targets

@@ -45,7 +45,7 @@ fn is_plain(signature: &[Symbol], t: &Term) -> bool
 pub(crate) fn is_target(signature: &[Symbol], t: &Term, counts: bool) -> bool
     ensures { result ≡ (spec.is_plain signature.now (tree t.now) && counts) }
 {
-    is_plain(signature, t) && counts
+    counts && is_plain(signature, t)
 }
 
 /// Whether a term is Foreground or Impure.

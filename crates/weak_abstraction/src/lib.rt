@@ -5,6 +5,7 @@
 mod abstracting;
 mod conditions;
 mod finding;
+mod keys;
 mod naming;
 mod replacing;
 #[cfg(test)]

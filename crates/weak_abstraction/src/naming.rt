@@ -6,16 +6,19 @@ ghost use Rattle.term_base.specs.Lits.{lit, lits};
 ghost use Rattle.term_base.specs.Purity as purity_of;
 ghost use Rattle.weak_abstraction.specs.Abstraction.{definition};
 ghost use Rattle.weak_abstraction.specs.Abstracted as spec;
+ghost use Rattle.weak_abstraction.specs.Keys.{terms};
 
+use crate::keys::Key;
+use indexmap::IndexSet;
 use sqlite_items::Items;
 use std::alloc::{AllocError, Global};
 use term_base::{Clause, Kind, Literal, Purity, Sort, Symbol, Term, Variable, purity};
 
 /// The different targets of a clause. Their variables are numbered in their order, from `first` on.
 #[derive(Drop)]
-pub(crate) struct Names {
+pub(crate) struct Names<'a> {
     pub(crate) first: usize,
-    pub(crate) found: Items<Term>,
+    pub(crate) found: IndexSet<Key<'a>>,
 }
 
 /// One more than the greatest number of a variable in a term, and 0 without variables.
@@ -85,29 +88,27 @@ fn variable_for(signature: &[Symbol], t: &Term, number: usize) -> Result<Variabl
 }
 
 /// How many terms stand before a term.
-fn place(found: &[Term], t: &Term) -> usize
-    ensures { result ≡ spec.place (tree t.now) (map tree found.now) }
+fn place<'a>(found: &IndexSet<Key<'a>>, t: &'a Term) -> usize
+    ensures { result ≡ spec.place (tree t.now) (terms found.now.keys) }
 {
-    for (i, u) in found.iter().enumerate() {
-        if u == t {
-            return i;
-        }
+    match found.get_index_of(&Key { term: t }) {
+        Some(at) => at,
+        None => found.len(),
     }
-    found.len()
 }
 
 /// The variable that stands for a target.
-pub(crate) fn variable_of(
+pub(crate) fn variable_of<'a>(
     signature: &[Symbol],
-    names: &Names,
-    t: &Term,
+    names: &Names<'a>,
+    t: &'a Term,
 ) -> Result<Variable, AllocError>
     ensures { IfOk result (λ v. v ≡ spec.variable_of signature.now names.now.first
-        (map tree names.now.found) (tree t.now)) }
+        (terms names.now.found.keys) (tree t.now)) }
 {
     let number = names
         .first
-        .checked_add(place(names.found.as_slice(), t))
+        .checked_add(place(&names.found, t))
         .ok_or(AllocError)?;
     variable_for(signature, t, number)
 }
@@ -130,15 +131,15 @@ fn definition(
 pub(crate) fn definitions(
     alloc: Global,
     signature: &[Symbol],
-    names: &Names,
+    names: &Names<'_>,
 ) -> Result<Items<Literal>, AllocError>
     ensures { IfOk result (λ all. map lit all ≡ map definition
-        (spec.numbered signature.now names.now.first (map tree names.now.found))) }
+        (spec.numbered signature.now names.now.first (terms names.now.found.keys))) }
 {
     let mut all = Items::new(alloc);
     let mut number = names.first;
-    for t in names.found.as_slice() {
-        all.push(definition(alloc, signature, t, number)?)?;
+    for key in names.found.as_slice() {
+        all.push(definition(alloc, signature, key.term, number)?)?;
         number = number.checked_add(1).ok_or(AllocError)?;
     }
     Ok(all)

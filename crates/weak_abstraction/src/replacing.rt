@@ -14,11 +14,11 @@ use term_base::{Literal, Symbol, Term, is_foreground};
 
 /// A term with its targets replaced, at a place where one may stand or not.
 #[cycle(replaced)]
-fn replaced(
+fn replaced<'a>(
     alloc: Global,
     signature: &[Symbol],
-    names: &Names,
-    t: &Term,
+    names: &Names<'a>,
+    t: &'a Term,
     counts: bool,
 ) -> Result<Term, AllocError>
     ensures { IfOk result (λ r. tree r
@@ -32,11 +32,11 @@ fn replaced(
 
 /// A term with the targets below it replaced.
 #[cycle(replaced)]
-fn replaced_below(
+fn replaced_below<'a>(
     alloc: Global,
     signature: &[Symbol],
-    names: &Names,
-    t: &Term,
+    names: &Names<'a>,
+    t: &'a Term,
 ) -> Result<Term, AllocError>
     ensures { IfOk result (λ r. tree r
         ≡ spec.replaced_below signature.now (name_in signature.now names.now) (tree t.now)) }
@@ -70,12 +70,12 @@ fn replaced_below(
 }
 
 /// A side of a literal with its targets replaced.
-fn replaced_side(
+fn replaced_side<'a>(
     alloc: Global,
     signature: &[Symbol],
-    names: &Names,
+    names: &Names<'a>,
     equation: bool,
-    t: &Term,
+    t: &'a Term,
     beside: &Term,
 ) -> Result<Term, AllocError>
     ensures { IfOk result (λ r. tree r
@@ -87,11 +87,11 @@ fn replaced_side(
 }
 
 /// A literal with the targets of its sides replaced.
-fn replaced_sides(
+fn replaced_sides<'a>(
     alloc: Global,
     signature: &[Symbol],
-    names: &Names,
-    l: &Literal,
+    names: &Names<'a>,
+    l: &'a Literal,
 ) -> Result<Literal, AllocError>
     ensures { IfOk result (λ r. lit r
         ≡ spec.replaced_sides signature.now (name_in signature.now names.now) (lit l.now)) }
@@ -116,11 +116,11 @@ fn replaced_sides(
 }
 
 /// A literal with its targets replaced.
-fn replaced_literal(
+fn replaced_literal<'a>(
     alloc: Global,
     signature: &[Symbol],
-    names: &Names,
-    l: &Literal,
+    names: &Names<'a>,
+    l: &'a Literal,
 ) -> Result<Literal, AllocError>
     ensures { IfOk result (λ r. lit r
         ≡ spec.replaced_lit signature.now (name_in signature.now names.now) (lit l.now)) }
@@ -133,11 +133,11 @@ fn replaced_literal(
 }
 
 /// Literals with their targets replaced.
-pub(crate) fn replaced_literals(
+pub(crate) fn replaced_literals<'a>(
     alloc: Global,
     signature: &[Symbol],
-    names: &Names,
-    literals: &[Literal],
+    names: &Names<'a>,
+    literals: &'a [Literal],
 ) -> Result<Items<Literal>, AllocError>
     ensures { IfOk result (λ all. map lit all
         ≡ map (spec.replaced_lit signature.now (name_in signature.now names.now))

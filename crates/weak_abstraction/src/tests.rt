@@ -107,15 +107,21 @@ fn predicate_defined(alloc: Global, x: Term, again: Term, t: Term) -> Result<Cla
     defined(alloc, predicate(alloc, x)?, again, sum)
 }
 
-// s0((A0 + 1)) = true, and s0((N0 + 1)) = true
+// s0((A0 + 1)) = true
 #[test]
-fn the_kind_is_that_of_the_term(rt: HostRuntime) -> Result<(), Fail> {
-    let pure = predicate_of_sum(rt.alloc(), a(0))?;
-    let answer = predicate_defined(rt.alloc(), a(1), a(1), a(0))?;
-    assert!(rt; gives(rt.alloc(), &pure, &answer)?);
-    let impure = predicate_of_sum(rt.alloc(), n(0))?;
-    let answer = predicate_defined(rt.alloc(), n(1), n(1), n(0))?;
-    assert!(rt; gives(rt.alloc(), &impure, &answer)?);
+fn an_abstraction_variable_for_a_pure_term(rt: HostRuntime) -> Result<(), Fail> {
+    let c = predicate_of_sum(rt.alloc(), a(0))?;
+    let d = predicate_defined(rt.alloc(), a(1), a(1), a(0))?;
+    assert!(rt; gives(rt.alloc(), &c, &d)?);
+    Ok(())
+}
+
+// s0((N0 + 1)) = true
+#[test]
+fn an_ordinary_variable_for_an_impure_term(rt: HostRuntime) -> Result<(), Fail> {
+    let c = predicate_of_sum(rt.alloc(), n(0))?;
+    let d = predicate_defined(rt.alloc(), n(1), n(1), n(0))?;
+    assert!(rt; gives(rt.alloc(), &c, &d)?);
     Ok(())
 }
 
@@ -149,13 +155,29 @@ fn parameter_beside(alloc: Global, equation: bool, x: Term) -> Result<Literal, A
     })
 }
 
+// s3 = s1(s3), or s3 != s1(s3)
+fn parameter_twice(alloc: Global, equation: bool) -> Result<Clause, AllocError> {
+    let s3 = parameter(alloc, 3);
+    one(alloc, parameter_beside(alloc, equation, s3)?)
+}
+
+// s3 = s1(A0) | A0 != s3
+fn one_parameter_defined(alloc: Global) -> Result<Clause, AllocError> {
+    let l = parameter_beside(alloc, true, a(0))?;
+    defined(alloc, l, a(0), parameter(alloc, 3))
+}
+
+// A0 != s1(A0) | A0 != s3
+fn both_parameters_defined(alloc: Global) -> Result<Clause, AllocError> {
+    let l = Literal::Differ(a(0), unary(alloc, 1, a(0))?);
+    defined(alloc, l, a(0), parameter(alloc, 3))
+}
+
 // s3 = s1(s3) has the target s3 below s1 alone
 #[test]
 fn a_parameter_beside_an_equation_stays(rt: HostRuntime) -> Result<(), Fail> {
-    let s3 = parameter(rt.alloc(), 3);
-    let c = one(rt.alloc(), parameter_beside(rt.alloc(), true, s3)?)?;
-    let l = parameter_beside(rt.alloc(), true, a(0))?;
-    let d = defined(rt.alloc(), l, a(0), parameter(rt.alloc(), 3))?;
+    let c = parameter_twice(rt.alloc(), true)?;
+    let d = one_parameter_defined(rt.alloc())?;
     assert!(rt; gives(rt.alloc(), &c, &d)?);
     Ok(())
 }
@@ -163,10 +185,8 @@ fn a_parameter_beside_an_equation_stays(rt: HostRuntime) -> Result<(), Fail> {
 // s3 != s1(s3) has both
 #[test]
 fn a_parameter_beside_a_disequation_is_replaced(rt: HostRuntime) -> Result<(), Fail> {
-    let s3 = parameter(rt.alloc(), 3);
-    let c = one(rt.alloc(), parameter_beside(rt.alloc(), false, s3)?)?;
-    let l = Literal::Differ(a(0), unary(rt.alloc(), 1, a(0))?);
-    let d = defined(rt.alloc(), l, a(0), parameter(rt.alloc(), 3))?;
+    let c = parameter_twice(rt.alloc(), false)?;
+    let d = both_parameters_defined(rt.alloc())?;
     assert!(rt; gives(rt.alloc(), &c, &d)?);
     Ok(())
 }
@@ -178,15 +198,24 @@ fn sum_bounded(alloc: Global, x: Term, y: Term) -> Result<Literal, AllocError> {
 }
 
 // (s1(s3) + s4) <= 2
+fn sum_of_parameters(alloc: Global) -> Result<Clause, AllocError> {
+    let s3 = parameter(alloc, 3);
+    let s4 = parameter(alloc, 4);
+    one(alloc, sum_bounded(alloc, s3, s4)?)
+}
+
+// (s1(A0) + A1) <= 2 | A0 != s3 | A1 != s4
+fn sum_of_parameters_defined(alloc: Global) -> Result<Clause, AllocError> {
+    let l = sum_bounded(alloc, a(0), a(1))?;
+    let s3 = parameter(alloc, 3);
+    let s4 = parameter(alloc, 4);
+    defined_twice(alloc, l, a(0), s3, a(1), s4)
+}
+
 #[test]
 fn targets_below_a_sum(rt: HostRuntime) -> Result<(), Fail> {
-    let s3 = parameter(rt.alloc(), 3);
-    let s4 = parameter(rt.alloc(), 4);
-    let c = one(rt.alloc(), sum_bounded(rt.alloc(), s3, s4)?)?;
-    let l = sum_bounded(rt.alloc(), a(0), a(1))?;
-    let s3 = parameter(rt.alloc(), 3);
-    let s4 = parameter(rt.alloc(), 4);
-    let d = defined_twice(rt.alloc(), l, a(0), s3, a(1), s4)?;
+    let c = sum_of_parameters(rt.alloc())?;
+    let d = sum_of_parameters_defined(rt.alloc())?;
     assert!(rt; gives(rt.alloc(), &c, &d)?);
     Ok(())
 }
@@ -198,12 +227,22 @@ fn product_bounded(alloc: Global, x: Term) -> Result<Literal, AllocError> {
 }
 
 // 0 <= (2 * s1((s3 + 1)))
+fn product_of_sum(alloc: Global) -> Result<Clause, AllocError> {
+    let sum = plus_one(alloc, parameter(alloc, 3))?;
+    one(alloc, product_bounded(alloc, sum)?)
+}
+
+// 0 <= (2 * s1(A0)) | A0 != (s3 + 1)
+fn product_of_sum_defined(alloc: Global) -> Result<Clause, AllocError> {
+    let l = product_bounded(alloc, a(0))?;
+    let sum = plus_one(alloc, parameter(alloc, 3))?;
+    defined(alloc, l, a(0), sum)
+}
+
 #[test]
 fn a_target_below_a_product(rt: HostRuntime) -> Result<(), Fail> {
-    let sum = plus_one(rt.alloc(), parameter(rt.alloc(), 3))?;
-    let c = one(rt.alloc(), product_bounded(rt.alloc(), sum)?)?;
-    let sum = plus_one(rt.alloc(), parameter(rt.alloc(), 3))?;
-    let d = defined(rt.alloc(), product_bounded(rt.alloc(), a(0))?, a(0), sum)?;
+    let c = product_of_sum(rt.alloc())?;
+    let d = product_of_sum_defined(rt.alloc())?;
     assert!(rt; gives(rt.alloc(), &c, &d)?);
     Ok(())
 }
@@ -219,13 +258,24 @@ fn parameter_plus(alloc: Global) -> Result<Term, AllocError> {
     Term::sum(alloc, parameter(alloc, 3), n(0))
 }
 
-// s1(s1((s3 + N0))) <= 0: s3 is beside an Impure term, and isn't outermost
+// s1(s1((s3 + N0))) <= 0
+fn nested_sum(alloc: Global) -> Result<Clause, AllocError> {
+    let sum = parameter_plus(alloc)?;
+    one(alloc, nested(alloc, sum)?)
+}
+
+// s1(s1(N1)) <= 0 | N1 != (s3 + N0)
+fn nested_sum_defined(alloc: Global) -> Result<Clause, AllocError> {
+    let l = nested(alloc, n(1))?;
+    let sum = parameter_plus(alloc)?;
+    defined(alloc, l, n(1), sum)
+}
+
+// s3 is beside an Impure term, and isn't outermost
 #[test]
 fn the_outermost_target_alone(rt: HostRuntime) -> Result<(), Fail> {
-    let sum = parameter_plus(rt.alloc())?;
-    let c = one(rt.alloc(), nested(rt.alloc(), sum)?)?;
-    let sum = parameter_plus(rt.alloc())?;
-    let d = defined(rt.alloc(), nested(rt.alloc(), n(1))?, n(1), sum)?;
+    let c = nested_sum(rt.alloc())?;
+    let d = nested_sum_defined(rt.alloc())?;
     assert!(rt; gives(rt.alloc(), &c, &d)?);
     Ok(())
 }
@@ -236,16 +286,26 @@ fn predicate_of_two(alloc: Global, x: Term, y: Term) -> Result<Literal, AllocErr
     predicate(alloc, inner)
 }
 
-// s0(s2(s4, s3)) = true: numbered by first places
+// s0(s2(s4, s3)) = true
+fn two_parameters(alloc: Global) -> Result<Clause, AllocError> {
+    let s3 = parameter(alloc, 3);
+    let s4 = parameter(alloc, 4);
+    one(alloc, predicate_of_two(alloc, s4, s3)?)
+}
+
+// s0(s2(A0, A1)) = true | A0 != s4 | A1 != s3
+fn two_parameters_defined(alloc: Global) -> Result<Clause, AllocError> {
+    let l = predicate_of_two(alloc, a(0), a(1))?;
+    let s3 = parameter(alloc, 3);
+    let s4 = parameter(alloc, 4);
+    defined_twice(alloc, l, a(0), s4, a(1), s3)
+}
+
+// numbered by first places
 #[test]
 fn variables_in_order(rt: HostRuntime) -> Result<(), Fail> {
-    let s3 = parameter(rt.alloc(), 3);
-    let s4 = parameter(rt.alloc(), 4);
-    let c = one(rt.alloc(), predicate_of_two(rt.alloc(), s4, s3)?)?;
-    let l = predicate_of_two(rt.alloc(), a(0), a(1))?;
-    let s3 = parameter(rt.alloc(), 3);
-    let s4 = parameter(rt.alloc(), 4);
-    let d = defined_twice(rt.alloc(), l, a(0), s4, a(1), s3)?;
+    let c = two_parameters(rt.alloc())?;
+    let d = two_parameters_defined(rt.alloc())?;
     assert!(rt; gives(rt.alloc(), &c, &d)?);
     Ok(())
 }
@@ -259,25 +319,55 @@ fn variables_and_numbers_stay(rt: HostRuntime) -> Result<(), Fail> {
     Ok(())
 }
 
-// (s3 + N0) <= N0, beside s0(0) = true: a literal without foreground symbol has no target
+// (s3 + N0) <= N0 | s0(0) = true
+fn background_beside_foreground(alloc: Global) -> Result<Clause, AllocError> {
+    let sum = parameter_plus(alloc)?;
+    let mut c = one(alloc, Literal::AtMost(sum, n(0)))?;
+    c.literals.push(predicate(alloc, Term::Num(0))?)?;
+    Ok(c)
+}
+
+// a literal without foreground symbol has no target
 #[test]
 fn background_literals_stay(rt: HostRuntime) -> Result<(), Fail> {
-    let sum = parameter_plus(rt.alloc())?;
-    let mut c = one(rt.alloc(), Literal::AtMost(sum, n(0)))?;
-    c.literals.push(predicate(rt.alloc(), Term::Num(0))?)?;
+    let c = background_beside_foreground(rt.alloc())?;
     assert!(rt; gives(rt.alloc(), &c, &c)?);
     Ok(())
 }
 
-// s0(A4294967295) = true comes back, and s0((A4294967295 + 1)) = true has no number left for a
-// variable
+// s0(A4294967295) = true comes back
+#[test]
+fn the_last_number_stays(rt: HostRuntime) -> Result<(), Fail> {
+    let c = one(rt.alloc(), predicate(rt.alloc(), a(u32::MAX))?)?;
+    assert!(rt; gives(rt.alloc(), &c, &c)?);
+    Ok(())
+}
+
+// s0((A4294967295 + 1)) = true has no number left for a variable
 #[test]
 fn numbers_end(rt: HostRuntime) -> Result<(), Fail> {
     let symbols = signature(rt.alloc())?;
-    let c = one(rt.alloc(), predicate(rt.alloc(), a(u32::MAX))?)?;
-    assert!(rt; gives(rt.alloc(), &c, &c)?);
     let c = predicate_of_sum(rt.alloc(), a(u32::MAX))?;
     let answer = abstracted(rt.alloc(), symbols.as_slice(), &c);
     assert!(rt; answer.is_err());
+    Ok(())
+}
+
+// s0(s3) = true | s0(s4) = true | .., with 4,000 parameters
+fn predicates_of_parameters(alloc: Global) -> Result<Clause, AllocError> {
+    let mut literals = Items::new(alloc);
+    for f in 3..4003u32 {
+        literals.push(predicate(alloc, parameter(alloc, f))?)?;
+    }
+    Ok(Clause { literals })
+}
+
+// one variable and one literal more for each
+#[test]
+fn many_targets(rt: HostRuntime) -> Result<(), Fail> {
+    let symbols = signature(rt.alloc())?;
+    let c = predicates_of_parameters(rt.alloc())?;
+    let made = abstracted(rt.alloc(), symbols.as_slice(), &c)?;
+    assert_eq!(rt; made.literals.len(), 8000);
     Ok(())
 }

@@ -1,4 +1,4 @@
-use Rattle.std.proofs.Common.{◌≡◌, ◌||◌, Bool, ◌∙◌, sym, ap, [], map, drop, length, suc, ◌+◌, ◌<◌, arith, rules}
+use Rattle.std.proofs.Common.{◌≡◌, ◌∙◌, sym, ap, [], map, drop, length, suc, ◌+◌, ◌<◌, arith, rules}
 use Rattle.std.proofs.lemmas.Grind.{common_steps}
 use Rattle.term_base.specs.Trees.{tree, trees}
 use Rattle.term_order.specs.Standing.{above_if}
@@ -10,18 +10,10 @@ pub standing-returns-then-is_variable : goal.standing-returns-then-is_variable
 standing-returns-then-is_variable t c =
     c.equal_if.ensures ∙ ap equal_if c.eq.ensures ∙ sym (of_variable c.args.signature.now (tree c.args.s.now) (tree c.args.t.now) c.if-is_variable.ensures)
 
-pub standing-returns-then-covers : goal.standing-returns-then-covers
-standing-returns-then-covers t c =
-    let s = tree c.args.s.now in
-    sym (over_variable c.args.signature.now s (tree c.args.t.now) c.if-is_variable.ensures c.if-is_variable-2.ensures
-    ∙ ap (λ (b : Bool). above_if (b || some_of c.args.signature.now (arguments s) (tree c.args.t.now))) (sym c.if-covers.ensures))
-
 pub standing-returns-then-is_variable-2 : goal.standing-returns-then-is_variable-2
 standing-returns-then-is_variable-2 t c =
-    let s = tree c.args.s.now in
-    c.above_if.ensures ∙ ap above_if c.some_argument.ensures
-    ∙ sym (over_variable c.args.signature.now s (tree c.args.t.now) c.if-is_variable.ensures c.if-is_variable-2.ensures
-    ∙ ap (λ (b : Bool). above_if (b || some_of c.args.signature.now (arguments s) (tree c.args.t.now))) (sym c.if-covers.ensures))
+    c.above_if.ensures ∙ ap above_if c.is_above_variable.ensures
+    ∙ sym (over_variable c.args.signature.now (tree c.args.s.now) (tree c.args.t.now) c.if-is_variable.ensures c.if-is_variable-2.ensures)
 
 pub each_from-returns : goal.each_from-returns
 each_from-returns t c =
@@ -94,7 +86,7 @@ by_lists-returns-else-is_empty t c =
 
 pub standing-returns-then-has_smaller_head : goal.standing-returns-then-has_smaller_head
 standing-returns-then-has_smaller_head t c =
-    c.above_if-then-has_smaller_head.ensures ∙ ap above_if c.some_argument-then-has_smaller_head.ensures
+    c.above_if-then-has_smaller_head.ensures ∙ ap above_if c.some_argument.ensures
     ∙ sym (of_smaller c.args.signature.now (tree c.args.s.now) (tree c.args.t.now) c.if-has_smaller_head.ensures)
 
 pub standing-returns-then-has_smaller_head-2 : goal.standing-returns-then-has_smaller_head-2

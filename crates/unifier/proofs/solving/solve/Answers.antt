@@ -1,7 +1,7 @@
 use Rattle.std.proofs.Common.{◌∙◌, sym, ap}
 use Rattle.term_base.specs.Trees.{tree}
 use Rattle.unifier.specs.Found.{found_disagreement}
-use Rattle.unifier.proofs.SearchLemmas.{stands_start, stands_bound, stands_less, stands_agreed, stands_clash, stands_cyclic, stands_unsorted, refused, accepted}
+use Rattle.unifier.proofs.SearchLemmas.{stands_start, stands_bound, stands_less, stands_agreed, stands_known, stands_clash, stands_cyclic, stands_unsorted, refused, accepted}
 use Rattle.unifier.proofs.solving.solve.Goals as goal
 
 pub loop-search-init : goal.loop-search-init
@@ -10,6 +10,10 @@ loop-search-init c = stands_start c.args.signature.now _ _ c.args.l c.args.u c.n
 pub returns-in-Agree-clause-general : goal.returns-in-Agree-clause-general
 returns-in-Agree-clause-general c =
     stands_agreed c.args.signature.now _ _ c.loop-search.search.pairs c.loop-search.search.l c.loop-search.search.u c.loop-search.search.pool.items c.loop-search.invariant (sym c.in_ok-first_disagreement.ensures ∙ ap found_disagreement c.in-Agree.is)
+
+pub returns-in-Agree-clause-known : goal.returns-in-Agree-clause-known
+returns-in-Agree-clause-known c =
+    stands_known c.args.signature.now _ _ c.loop-search.search.pairs c.loop-search.search.l c.loop-search.search.u c.loop-search.search.pool.items c.loop-search.invariant
 
 pub returns-in-Clash-clause-apart : goal.returns-in-Clash-clause-apart
 returns-in-Clash-clause-apart c =

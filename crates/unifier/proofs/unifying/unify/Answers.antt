@@ -1,5 +1,5 @@
 use Rattle.term_base.specs.Trees.{tree}
-use Rattle.unifier.proofs.AnswerLemmas.{pair_alone}
+use Rattle.unifier.proofs.AnswerLemmas.{pair_alone, pair_others_alone}
 use Rattle.unifier.proofs.NumberLemmas.{pair_numbered_alone}
 use Rattle.unifier.proofs.unifying.unify.Goals as goal
 
@@ -8,3 +8,6 @@ returns-clause-some c = pair_alone c.unify_over.result c.args.signature.now (tre
 
 pub returns-clause-numbered : goal.returns-clause-numbered
 returns-clause-numbered c = pair_numbered_alone c.unify_over.result (tree c.args.l.now) (tree c.args.u.now) c.unify_over.ensures.numbered
+
+pub returns-clause-others : goal.returns-clause-others
+returns-clause-others c = pair_others_alone c.unify_over.result (tree c.args.l.now) (tree c.args.u.now) c.unify_over.ensures.others

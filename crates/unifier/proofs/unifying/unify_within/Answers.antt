@@ -6,7 +6,8 @@ use Rattle.term_base.specs.TreeLemmas.{or-left, or-right}
 use Rattle.unifier.specs.Sorted.{IsGeneral, NoneSorted}
 use Rattle.unifier.specs.Unifiers.{occurs_or, occurs_either_or}
 use Rattle.unifier.specs.Variables.{has}
-use Rattle.unifier.proofs.AnswerLemmas.{of_some, of_none, one_some, one_none, one_unsorted}
+use Rattle.unifier.proofs.AnswerLemmas.{of_some, of_none, one_some, one_none, one_unsorted, one_others}
+use Rattle.unifier.proofs.KnownLemmas.{FoundKnown, one_known}
 use Rattle.unifier.proofs.NumberLemmas.{one_numbered}
 use Rattle.unifier.proofs.VariableLemmas.{gathered_both_or, gathered_both_back, gathered_both_ascends}
 use Rattle.unifier.proofs.unifying.unify_within.Goals as goal
@@ -56,4 +57,22 @@ returns-in-Some-clause-numbered c =
     one_numbered c.within.result c.as_slice.result.now c.as_slice-in-Some.result.now (occurs_either_or l u c.args.others.now)
     (λ v i. gathered_both_or l u c.args.others.now c.as_slice-in-Some.result.now v list i)
     (λ v i. gathered_both_back l u c.args.others.now c.as_slice-in-Some.result.now v list i)
+    c.within.ensures.named
+
+pub returns-in-Some-clause-others : goal.returns-in-Some-clause-others
+returns-in-Some-clause-others c =
+    let list = c.as_slice-in-Some.ensures.value ∙ c.in_ok-list.ensures in
+    let l = tree c.args.l.now in
+    let u = tree c.args.u.now in
+    one_others c.within.result c.as_slice.result.now c.as_slice-in-Some.result.now (occurs_either_or l u c.args.others.now)
+    (λ v i. gathered_both_back l u c.args.others.now c.as_slice-in-Some.result.now v list i)
+    c.within.ensures.named
+
+pub returns-in-Some-clause-known : goal.returns-in-Some-clause-known
+returns-in-Some-clause-known c =
+    let l = tree c.args.l.now in
+    let u = tree c.args.u.now in
+    one_known c.within.result c.as_slice.result.now c.as_slice-in-Some.result.now l u
+    (subst (λ ps. FoundKnown l u (image ps)) (sym c.as_slice.ensures)
+    (of_some c.in_ok-found.field-0 c.in-Some.found (λ ps. FoundKnown l u (image ps)) c.in-Some.is c.in_ok-found.ensures.known))
     c.within.ensures.named
