@@ -1,5 +1,5 @@
 -- Complete, literal by literal.
-use Rattle.std.specs.Prelude.{◌≡◌, ℕ, suc, ◌<◌, ◌+◌, ◌-◌, ℤ, pos, negsuc, ◌≤ℤ◌, ◌*ℤ◌, Bool, true, false, cond, IsTrue, IfSome, IfOk, option_map, unsigned_abs, Result, Ok, Err, length, get_or, drop, map, List, [], ◌∷◌, ◌++◌, Option, Some, None, if◌then◌else◌}
+use Rattle.std.specs.Prelude.{◌≡◌, ℕ, suc, ◌<◌, ◌+◌, ◌-◌, ℤ, pos, negsuc, ◌≤ℤ◌, ◌*ℤ◌, Bool, true, false, IsTrue, IfSome, option_map, unsigned_abs, Result, length, get_or, drop, map, List, [], ◌∷◌, ◌++◌, Option, Some, None, if◌then◌else◌}
 use Rattle.std.specs.List.{list_all, list_any, filter_map, flat_map, cons_option}
 use Rattle.std.proofs.Common.{refl, sym, ◌∙◌, ap, subst, arith, add-one, inl, inr}
 use Rattle.std.proofs.lemmas.Int.{ints}
@@ -10,7 +10,6 @@ use Rattle.std.proofs.lemmas.List.Folds.{list_all-append}
 use Rattle.lin_base.specs.declared.sums.Lin.{Lin}
 use Rattle.lin_base.specs.declared.facts.Fact.{Fact}
 use Rattle.lin_base.specs.declared.facts.Fact.TheVariants.{AtMostZero, Zero, Divides, NotDivides}
-use Rattle.lin_base.specs.declared.wides.Wide.{Wide}
 use Rattle.lin_base.specs.Whole.{is_zero, is_positive}
 use Rattle.lin_base.specs.Fact.{is_fact, is_lin}
 use Rattle.lin_base.specs.Sum.{coef, occurs, without, negated, add_number, above}
@@ -20,18 +19,14 @@ use Rattle.cert_tree.specs.declared.certs.Row.TheVariants.{Low}
 use Rattle.cert_tree.specs.declared.sums.Side.{Side as Parts}
 use Rattle.cert_tree.specs.Counting.{count_from, numbers_below}
 use Rattle.cert_tree.specs.Points.{Side, made_positive, period, period_steps}
-use Rattle.cert_tree.specs.Narrow.{if_narrow, IsValueOf}
 use Rattle.cert_tree.specs.Sides.{side_of}
 use Rattle.cert_tree.specs.Bounds.{is_side}
 use Rattle.cert_tree.specs.Rows.{row_clause, bounds_above, low_at, low_steps}
 use Rattle.cert_tree.specs.Complete.{upper, upper_steps, instance, instances, lows, complete_rows, complete, complete_steps, moved_instance, moved_steps, instances_at, instances_steps, literal_instances, literal_steps, uppers_at, uppers_steps, lows_at, lows_steps, numbered_lows, numbered_low_steps}
 use Rattle.lin_base.specs.declared.wides.ArithmeticError.{ArithmeticError}
-use Rattle.lin_base.specs.Steps.{Forms, first_wide, is_narrow, IsErrorAt}
+use Rattle.lin_base.specs.Steps.{Forms, first_wide, IsErrorAt}
 use Rattle.lin_base.proofs.Forming.{Forms-after, IsErrorAt-append_some}
-use Rattle.std.specs.declared.alloc.AllocError.{AllocError}
-use Rattle.cert_tree.proofs.Forming.{is_lin-negated, value_narrow}
-use Rattle.cert_tree.proofs.Combinations.{if_narrow-append}
-use Rattle.cert_tree.proofs.Truth.{if_narrow_out}
+use Rattle.cert_tree.proofs.Forming.{is_lin-negated}
 use Rattle.cert_tree.proofs.Replacing.{occurs-without, occurs-negated, positive_side, absent_side, is_lin_side}
 use Rattle.cert_tree.proofs.Pointing.{side_is, one_up, zero_up, side_positive, side_lin, side_absent, occurs-add_number}
 use Rattle.cert_tree.proofs.Rowing.{is_fact-instance_at, is_fact-low_at}
@@ -180,25 +175,9 @@ module _ (x : ℕ) (clause : List Fact) where
       rw h (subst P (below_abs d n up is) formed)
 
   -- ---- all of Complete
-  pub complete_value : (o : Option ℤ) (d : ℤ) → o ≡ if_narrow (period_steps x clause) (period x clause) → o ≡ Some d
-      → if_narrow (uppers_steps x clause d clause ++ lows_steps x clause d) (uppers_at x clause d clause ++ lows_at x clause d) ≡ if_narrow (complete_steps x clause) (complete x clause)
-  complete_value o d is some =
-      let out = if_narrow_out (period_steps x clause) (period x clause) d (sym is ∙ some) in
-      let whole = if_narrow-append (period_steps x clause) (uppers_steps x clause (period x clause) clause ++ lows_steps x clause (period x clause)) (complete x clause) in
-      sym (whole
-      ∙ ap (λ b. cond b (if_narrow (uppers_steps x clause (period x clause) clause ++ lows_steps x clause (period x clause)) (complete x clause)) None) out.0
-      ∙ ap (if_narrow (uppers_steps x clause (period x clause) clause ++ lows_steps x clause (period x clause))) (complete_by_literal x clause 0)
-      ∙ ap (λ z. if_narrow (uppers_steps x clause z clause ++ lows_steps x clause z) (uppers_at x clause z clause ++ lows_at x clause z)) out.1)
-
-  pub complete_none : (o : Option ℤ) → o ≡ if_narrow (period_steps x clause) (period x clause) → o ≡ None → if_narrow (complete_steps x clause) (complete x clause) ≡ None
-  complete_none o is none =
-      if_narrow-append (period_steps x clause) (uppers_steps x clause (period x clause) clause ++ lows_steps x clause (period x clause)) (complete x clause)
-      ∙ by_steps (is_narrow (period_steps x clause)) (if_narrow (uppers_steps x clause (period x clause) clause ++ lows_steps x clause (period x clause)) (complete x clause)) (sym is ∙ none)
-    where
-      by_steps : (b : Bool) (rest : Option (List (List Fact))) → cond b (Some (period x clause)) None ≡ None → cond b rest None ≡ None
-      by_steps true rest h = absurd (cc)
-      by_steps false rest h = refl
-
-pub narrow_gives : {A : Type 0} (r : Result A ArithmeticError) (n : Result (Option A) AllocError) (steps : List Wide) (a : A) → Forms r steps a → IfOk n (IsValueOf r) → IfOk n (λ o. o ≡ if_narrow steps a)
-narrow_gives r (Ok o) steps a forms is = value_narrow r o steps a forms is
-narrow_gives r (Err e) steps a forms is = tt
+  pub complete_forms : (d : ℤ) (r : Result (List (List Fact)) ArithmeticError) → d ≡ period x clause → first_wide (period_steps x clause) ≡ None
+      → Forms r (uppers_steps x clause d clause ++ lows_steps x clause d) (uppers_at x clause d clause ++ lows_at x clause d) → Forms r (complete_steps x clause) (complete x clause)
+  complete_forms d r is none formed =
+      let P : ℤ → Type 0 = λ z. Forms r (uppers_steps x clause z clause ++ lows_steps x clause z) (uppers_at x clause z clause ++ lows_at x clause z) in
+      let Q : List (List Fact) → Type 0 = λ cs. Forms r (uppers_steps x clause (period x clause) clause ++ lows_steps x clause (period x clause)) cs in
+      Forms-after r (period_steps x clause) (uppers_steps x clause (period x clause) clause ++ lows_steps x clause (period x clause)) (complete x clause) none (subst Q (sym (complete_by_literal x clause 0)) (subst P is formed))

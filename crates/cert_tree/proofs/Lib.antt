@@ -4,6 +4,7 @@ pub mod Nodes
 pub mod Truth
 pub mod Least
 pub mod Sound
+pub mod UsedUp
 pub mod RowsSound
 pub mod Periods
 pub mod Pointing

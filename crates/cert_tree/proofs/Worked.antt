@@ -44,122 +44,122 @@ abbrev pool_of : ℕ → List (List Fact) → Pool
 pool_of n cs = record { params = n; clauses = cs }
 
 -- ---- the clause true != true
-abbrev pool_31 : Pool
-pool_31 = pool_of 0 ((AtMostZero (number (pos 1)) ∷ []) ∷ [])
+abbrev pool_false : Pool
+pool_false = pool_of 0 ((AtMostZero (number (pos 1)) ∷ []) ∷ [])
 
-row_31 : stands pool_31 (record { rows = []; tree = case 0 (clash 0 ∷ []) }) ≡ true
-row_31 = simp nodes
+false_clause_closes : stands pool_false (record { rows = []; tree = case 0 (clash 0 ∷ []) }) ≡ true
+false_clause_closes = simp nodes
 
 -- ---- for each x a greater y
-abbrev pool_3 : Pool
-pool_3 = pool_of 1 ((AtMostZero (lin ((0, negsuc 0) ∷ (1, pos 1) ∷ []) (pos 0)) ∷ []) ∷ [])
+abbrev pool_greater : Pool
+pool_greater = pool_of 1 ((AtMostZero (lin ((0, negsuc 0) ∷ (1, pos 1) ∷ []) (pos 0)) ∷ []) ∷ [])
 
 -- ---- 2x = 1, by combinations and cuts
-abbrev pool_4 : Pool
-pool_4 = pool_of 1 ((Zero (lin ((0, pos 2) ∷ []) (negsuc 0)) ∷ []) ∷ [])
+abbrev pool_half : Pool
+pool_half = pool_of 1 ((Zero (lin ((0, pos 2) ∷ []) (negsuc 0)) ∷ []) ∷ [])
 
-abbrev tree_4 : ℕ → Tree
-tree_4 n =
+abbrev tree_half : ℕ → Tree
+tree_half n =
     case 0 (combine ((0, pos 1) ∷ []) (cut n (combine ((0, negsuc 0) ∷ []) (cut 3 (combine ((2, pos 1) ∷ (4, pos 1) ∷ []) (clash 5))))) ∷ [])
 
-row_4 : stands pool_4 (record { rows = []; tree = tree_4 1 }) ≡ true
-row_4 = simp nodes
+half_closes : stands pool_half (record { rows = []; tree = tree_half 1 }) ≡ true
+half_closes = simp nodes
 
-row_4_changed : stands pool_4 (record { rows = []; tree = tree_4 0 }) ≡ false
-row_4_changed = simp nodes
+half_with_another_cut : stands pool_half (record { rows = []; tree = tree_half 0 }) ≡ false
+half_with_another_cut = simp nodes
 
 -- ---- 3x - 3y between 1 and 2
-abbrev pool_5 : Pool
-pool_5 = pool_of 2
+abbrev pool_difference : Pool
+pool_difference = pool_of 2
     ((AtMostZero (lin ((0, negsuc 2) ∷ (1, pos 3) ∷ []) (pos 1)) ∷ []) ∷ (AtMostZero (lin ((0, pos 3) ∷ (1, negsuc 2) ∷ []) (negsuc 1)) ∷ []) ∷ [])
 
-abbrev tree_5 : ℤ → Tree
-tree_5 k = case 0 (case 1 (cut 0 (cut 1 (combine ((2, pos 1) ∷ (3, k) ∷ []) (clash 4))) ∷ []) ∷ [])
+abbrev tree_difference : ℤ → Tree
+tree_difference k = case 0 (case 1 (cut 0 (cut 1 (combine ((2, pos 1) ∷ (3, k) ∷ []) (clash 4))) ∷ []) ∷ [])
 
-row_5 : stands pool_5 (record { rows = []; tree = tree_5 (pos 1) }) ≡ true
-row_5 = simp nodes
+difference_closes : stands pool_difference (record { rows = []; tree = tree_difference (pos 1) }) ≡ true
+difference_closes = simp nodes
 
 -- a clash that names the wrong fact
-row_5_changed : stands pool_5 (record { rows = []; tree = tree_5 (pos 2) }) ≡ false
-row_5_changed = simp nodes
+difference_with_another_sum : stands pool_difference (record { rows = []; tree = tree_difference (pos 2) }) ≡ false
+difference_with_another_sum = simp nodes
 
 -- ---- the measures
-bulk_3 : bulk pool_3 ≡ 3
-bulk_3 = refl
+bulk_greater : bulk pool_greater ≡ 3
+bulk_greater = refl
 
 -- its Bulk
-bulk_5 : bulk pool_5 ≡ 12
-bulk_5 = refl
+bulk_difference : bulk pool_difference ≡ 12
+bulk_difference = refl
 
-span_5 : span pool_5 ≡ 9
-span_5 = refl
+span_difference : span pool_difference ≡ 9
+span_difference = refl
 
-depth_3 : depth pool_3 ≡ 2
-depth_3 = refl
+depth_greater : depth pool_greater ≡ 2
+depth_greater = refl
 
-bulk_31 : bulk pool_31 ≡ 2
-bulk_31 = refl
+bulk_false : bulk pool_false ≡ 2
+bulk_false = refl
 
 -- what the search finds for the first two is their printed certificate
-found_3 : (visit_of pool_3).found ≡ closed (case 1 (clash 0 ∷ []))
-found_3 = refl
+found_greater : (visit_of pool_greater).found ≡ closed (case 1 (clash 0 ∷ []))
+found_greater = refl
 
-rows_3 : (grounding pool_3).rows ≡ Inst 0 1 (pos 1) (lin ((0, pos 1) ∷ []) (pos 1)) ∷ []
-rows_3 = refl
+rows_greater : (grounding pool_greater).rows ≡ Inst 0 1 (pos 1) (lin ((0, pos 1) ∷ []) (pos 1)) ∷ []
+rows_greater = refl
 
-found_31 : (visit_of pool_31).found ≡ closed (case 0 (clash 0 ∷ []))
-found_31 = refl
+found_false : (visit_of pool_false).found ≡ closed (case 0 (clash 0 ∷ []))
+found_false = refl
 
 -- ---- values 3 and then 2
-pool_R3_3 : Pool
-pool_R3_3 = pool_of 1 ((AtMostZero (lin ((0, negsuc 0) ∷ []) (pos 3)) ∷ []) ∷ [])
+pool_at_least_three : Pool
+pool_at_least_three = pool_of 1 ((AtMostZero (lin ((0, negsuc 0) ∷ []) (pos 3)) ∷ []) ∷ [])
 
-R3_3_yes : checks pool_R3_3 (pos 3 ∷ []) ≡ true
-unfolding pool_R3_3
-R3_3_yes = refl
+three_holds : checks pool_at_least_three (pos 3 ∷ []) ≡ true
+unfolding pool_at_least_three
+three_holds = refl
 
-R3_3_no : checks pool_R3_3 (pos 2 ∷ []) ≡ false
-unfolding pool_R3_3
-R3_3_no = refl
+two_fails : checks pool_at_least_three (pos 2 ∷ []) ≡ false
+unfolding pool_at_least_three
+two_fails = refl
 
 -- ---- one elimination
-R4_1 : complete 1 (AtMostZero (lin ((0, negsuc 0) ∷ (1, pos 1) ∷ []) (pos 0)) ∷ []) ≡ (AtMostZero (number (pos 1)) ∷ []) ∷ []
-R4_1 = refl
+one_elimination : complete 1 (AtMostZero (lin ((0, negsuc 0) ∷ (1, pos 1) ∷ []) (pos 0)) ∷ []) ≡ (AtMostZero (number (pos 1)) ∷ []) ∷ []
+one_elimination = refl
 
 -- ---- a bound at the end of the range
-pool_10 : Pool
-pool_10 = pool_of 1 ((AtMostZero (lin ((0, pos 1) ∷ []) (negsuc (2 ^ 127 - 3))) ∷ []) ∷ [])
+pool_far_up : Pool
+pool_far_up = pool_of 1 ((AtMostZero (lin ((0, pos 1) ∷ []) (negsuc (2 ^ 127 - 3))) ∷ []) ∷ [])
 
-span_10 : span pool_10 ≡ 2 ^ 127 - 2
-unfolding pool_10
-span_10 = refl
+span_far_up : span pool_far_up ≡ 2 ^ 127 - 2
+unfolding pool_far_up
+span_far_up = refl
 
-bulk_10 : bulk pool_10 ≡ 3
-unfolding pool_10
-bulk_10 = refl
+bulk_far_up : bulk pool_far_up ≡ 3
+unfolding pool_far_up
+bulk_far_up = refl
 
 -- ---- the search finds a certificate that stands for 3x - 3y between 1 and 2
-abbrev searched_5 : Tree
-searched_5 =
+abbrev searched_difference : Tree
+searched_difference =
     case 0 (case 1 (least 0 (least 1 (clash 2 ∷ clash 2 ∷ clash 2 ∷ []) ∷ least 1 (clash 2 ∷ clash 2 ∷ clash 2 ∷ []) ∷ clash 1 ∷ []) ∷ []) ∷ [])
 
-found_5 : (visit_of pool_5).found ≡ closed searched_5
-found_5 = refl
+found_difference : (visit_of pool_difference).found ≡ closed searched_difference
+found_difference = refl
 
 -- ---- values: 2*u0 = u1, u1 <= 3, 2 <= u1
-abbrev pool_v : Pool
-pool_v = pool_of 2
+abbrev pool_solved : Pool
+pool_solved = pool_of 2
     ((Zero (lin ((0, pos 2) ∷ (1, negsuc 0) ∷ []) (pos 0)) ∷ []) ∷ (AtMostZero (lin ((1, pos 1) ∷ []) (negsuc 2)) ∷ []) ∷ (AtMostZero (lin ((1, negsuc 0) ∷ []) (pos 2)) ∷ []) ∷ [])
 
 abbrev values_found : Found Tree → List ℤ
 values_found (closed t) = []
 values_found (satisfied v) = values_at 2 v
 
-values_v : values_found (visit_of pool_v).found ≡ pos 1 ∷ pos 2 ∷ []
-values_v = refl
+values_solved : values_found (visit_of pool_solved).found ≡ pos 1 ∷ pos 2 ∷ []
+values_solved = refl
 
-checks_v : checks pool_v (pos 1 ∷ pos 2 ∷ []) ≡ true
-checks_v = refl
+checks_solved : checks pool_solved (pos 1 ∷ pos 2 ∷ []) ≡ true
+checks_solved = refl
 
 -- ---- 13 u between -1 and 1: 3 nodes and 13 children
 bulk_13 : bulk (pool_of 1 ((AtMostZero (lin ((0, negsuc 12) ∷ []) (pos 1)) ∷ []) ∷ (AtMostZero (lin ((0, pos 13) ∷ []) (pos 1)) ∷ []) ∷ [])) ≡ 16
@@ -169,9 +169,9 @@ bulk_13 = refl
 pool_two : Pool
 pool_two = pool_of 0 ((AtMostZero (lin ((0, pos 1) ∷ (1, pos 1) ∷ []) (pos 0)) ∷ AtMostZero (lin ((0, negsuc 0) ∷ []) (pos 1)) ∷ []) ∷ [])
 
-bulk_two : List (bulk pool_two ≡ 5)
+bulk_two : bulk pool_two ≡ 5
 unfolding pool_two
-bulk_two = refl ∷ []
+bulk_two = refl
 
 two_false : checks pool_two [] ≡ false
 unfolding pool_two

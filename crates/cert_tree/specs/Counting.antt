@@ -1,5 +1,5 @@
 -- Lists of numbers, and the pool's parts by number.
-use Rattle.std.specs.Prelude.{ℕ, zero, suc, ℤ, pos, Bool, not, ◌==◌, ◌&&◌, nat_lt, List, [], ◌∷◌}
+use Rattle.std.specs.Prelude.{ℕ, zero, suc, ℤ, pos, Bool, not, ◌==◌, ◌&&◌, nat_lt, List, [], ◌∷◌, ◌++◌, if◌then◌else◌}
 use Rattle.std.specs.List.{list_any}
 use Rattle.lin_base.specs.declared.sums.Lin.{Lin}
 use Rattle.lin_base.specs.declared.facts.Fact.{Fact}
@@ -19,6 +19,10 @@ numbers_below _ = []
 -- x is one of the numbers
 abbrev pub is_one_of : List ℕ → ℕ → Bool
 is_one_of xs x = list_any (λ y. y == x) xs
+
+-- the numbers, and x after them where it is not one of them
+abbrev pub with_number : List ℕ → ℕ → List ℕ
+with_number xs x = if is_one_of xs x then xs else xs ++ x ∷ []
 
 -- x occurs in a literal of the clause
 abbrev pub occurs_in : ℕ → List Fact → Bool

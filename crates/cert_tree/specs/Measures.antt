@@ -22,7 +22,7 @@ bulk pool = length (grounding pool).rows + (visit_of pool).nodes
 abbrev pub depth : Pool → ℕ
 depth pool = length (grounding pool).clauses + pool.params
 
--- the certificate of a search that closed, the values of one that did not
+-- the values of the parameters in order
 abbrev pub values_at : ℕ → Valuation → List ℤ
 values_at params v = map v (count_from 0 params)
 

@@ -20,13 +20,13 @@ pub enum Row {
         /// The sum, over parameters and other variables of the clause.
         t: Lin,
     },
-    /// The clause at numbers for `x` that are far down and `j` modulo the clause's moduli.
+    /// The clause at numbers for `x` that are far down and `j`, at least 0, modulo the clause's moduli.
     Low {
         /// The clause's number in the pool as it is extended so far.
         clause: u32,
         /// The variable.
         x: u32,
-        /// The number that is put for the variable.
+        /// The number that is put for the variable, at least 0.
         j: i128,
     },
 }

@@ -14,6 +14,7 @@ ghost use Rattle.cert_tree.specs.Children as spec;
 
 use crate::clauses::{fact_at, is_over_free};
 use crate::sums::{Side, narrow, one_above, solved};
+use crate::used::Used;
 use lin_base::{
     ArithmeticError, Fact, Lin, add_number, add_scaled, coef, is_lin, number, replace, tight,
 };
@@ -85,10 +86,10 @@ pub fn combination(
 }
 
 /// The facts `t <= 0` and `-t + 1 <= 0`, for a sum over parameters that aren't used up. None where the sum is none, or where a number leaves the range.
-pub fn branch_facts(
+pub(crate) fn branch_facts(
     alloc: Global,
     params: u32,
-    used: &[u32],
+    used: &Used,
     t: &Lin,
 ) -> Result<Option<(Fact, Fact)>, AllocError>
     ensures value { IfOk result (λ both. both ≡ spec.branch_facts params used.now t.now) }

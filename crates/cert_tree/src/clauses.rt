@@ -1,6 +1,6 @@
 //! Facts and clauses as the nodes of a certificate ask for them.
 
-ghost use Rattle.std.specs.Prelude.{◌≡◌, IsTrue, IfOk, IfSome, ◌∷◌, slice_get};
+ghost use Rattle.std.specs.Prelude.{◌≡◌, IsTrue, IfSome, slice_get};
 ghost use Rattle.std.specs.List.{list_all, list_any};
 ghost use Rattle.std.specs.Option.{option_copied};
 ghost use Rattle.lin_base.specs.Fact.{is_fact, is_pool};
@@ -8,9 +8,9 @@ ghost use Rattle.cert_tree.specs.Counting as spec;
 ghost use Rattle.cert_tree.specs.Stands.{is_open_case};
 ghost use Rattle.cert_tree.specs.Leasts.{is_lower_bound};
 
+use crate::used::Used;
 use lin_base::{Fact, Lin, Pool, coef};
 use sqlite_items::Items;
-use std::alloc::{AllocError, Global};
 
 /// The fact of this number.
 #[tactic(auto, using(crate::proofs::Members::members))]
@@ -32,32 +32,15 @@ pub fn clause_at(pool: &Pool, number: u32) -> Option<&Items<Fact>>
     pool.clauses.get(number as usize)
 }
 
-/// Whether a parameter is used up.
-pub fn is_one_of(used: &[u32], p: u32) -> bool
-    ensures { result ≡ spec.is_one_of used.now p }
-{
-    used.iter().any(|other| *other == p)
-}
-
 /// Whether `p` is a parameter that isn't used up.
-pub fn is_free(params: u32, used: &[u32], p: u32) -> bool
+pub(crate) fn is_free(params: u32, used: &Used, p: u32) -> bool
     ensures { result ≡ spec.is_free params used.now p }
 {
-    p < params && !is_one_of(used, p)
-}
-
-/// The used-up parameters with `p` in front.
-pub fn with_used(alloc: Global, used: &[u32], p: u32) -> Result<Items<u32>, AllocError>
-    ensures { IfOk result (λ more. more ≡ p ∷ used.now) }
-{
-    let mut more = Items::new(alloc);
-    more.push(p)?;
-    more.append(Items::from_slice(alloc, used)?)?;
-    Ok(more)
+    p < params && !used.has(p)
 }
 
 /// Whether a sum is over parameters that aren't used up.
-pub fn is_over_free(params: u32, used: &[u32], t: &Lin) -> bool
+pub(crate) fn is_over_free(params: u32, used: &Used, t: &Lin) -> bool
     ensures { result ≡ spec.is_over_free params used.now t.now }
 {
     for term in t.coefs.as_slice() {
@@ -69,7 +52,7 @@ pub fn is_over_free(params: u32, used: &[u32], t: &Lin) -> bool
 }
 
 /// Whether each unknown of a clause is a parameter that isn't used up.
-pub fn is_open_case(params: u32, used: &[u32], clause: &[Fact]) -> bool
+pub(crate) fn is_open_case(params: u32, used: &Used, clause: &[Fact]) -> bool
     ensures { result ≡ is_open_case params used.now clause.now }
 {
     for fact in clause {

@@ -15,7 +15,7 @@ ghost use Rattle.cert_tree.specs.Sides.{side_of};
 
 use crate::rows::{formed_far_down, formed_instance, has_upper_bound};
 use crate::sums::{Side, made_positive, narrow, parts_at};
-use crate::test_points::{Bound, moved_up, period};
+use crate::test_points::{Bound, formed_period, moved_up};
 use lin_base::{ArithmeticError, Fact, above, checked_mul, coef, number};
 use sqlite_items::Items;
 use std::alloc::{AllocError, Global};
@@ -229,6 +229,20 @@ fn formed_rows(
     Ok(made)
 }
 
+/// All clauses of Complete of a clause and `x`, in its order. Wide where a number leaves the range, with the first one's operands.
+#[tactic(auto, using(crate::proofs::Forming::forming))]
+pub fn formed_complete(
+    alloc: Global,
+    x: u32,
+    clause: &[Fact],
+) -> Result<Items<Items<Fact>>, ArithmeticError>
+    requires { IsTrue (list_all is_fact clause.now) }
+    ensures { Forms result (spec.complete_steps x clause.now) (spec.complete x clause.now) }
+{
+    let d = formed_period(x, clause)?;
+    formed_rows(alloc, x, &d, clause)
+}
+
 /// All clauses of Complete of a clause and `x`. None where a number leaves the range.
 #[tactic(auto, using(crate::proofs::Forming::narrowing))]
 pub fn complete(
@@ -240,8 +254,5 @@ pub fn complete(
     ensures value { IfOk result (λ o. o ≡ if_narrow (spec.complete_steps x clause.now) (spec.complete x clause.now)) }
     ensures well_formed { IfOk result (λ o. IfSome o (λ cs. IsTrue (list_all (list_all is_fact) cs))) }
 {
-    match period(x, clause)? {
-        Some(d) => narrow(formed_rows(alloc, x, &d, clause)),
-        None => Ok(None),
-    }
+    narrow(formed_complete(alloc, x, clause))
 }

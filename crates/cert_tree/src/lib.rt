@@ -15,6 +15,9 @@ pub mod sums;
 pub mod test_points;
 #[cfg(test)]
 mod tests;
+mod used;
+#[cfg(test)]
+mod used_tests;
 pub mod variables;
 
 pub use certs::{Cert, Row, Tree};

@@ -188,12 +188,12 @@ fn instance_on(
     narrow(formed_instance(alloc, x, a, t, clause))
 }
 
-/// Whether `x` is a variable of the clause that no AtMostZero literal bounds above.
-fn low_is_allowed(params: u32, clause: &[Fact], x: u32) -> bool
+/// Whether `x` is a variable of the clause that no AtMostZero literal bounds above, and `j` at least 0.
+fn low_is_allowed(params: u32, clause: &[Fact], x: u32, j: &i128) -> bool
     requires { IsTrue (list_all is_fact clause.now) }
-    ensures { result ≡ spec.low_is_allowed params clause.now x }
+    ensures { result ≡ spec.low_is_allowed params clause.now x j.now }
 {
-    is_variable_of(params, x, clause) && !has_upper_bound(x, clause)
+    is_variable_of(params, x, clause) && !has_upper_bound(x, clause) && *j >= 0
 }
 
 /// The clause that a row Low gives, where it stands.
@@ -209,7 +209,7 @@ fn low_on(
     ensures value { IfOk result (λ c. c ≡ spec.low_on params clause.now x j.now) }
     ensures well_formed { IfOk result (λ c. IfSome c (λ fs. IsTrue (list_all is_fact fs))) }
 {
-    if !low_is_allowed(params, clause, x) {
+    if !low_is_allowed(params, clause, x, j) {
         return Ok(None);
     }
     narrow(formed_low(alloc, x, j, clause))

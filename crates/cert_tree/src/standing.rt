@@ -11,17 +11,16 @@ ghost use Rattle.cert_tree.specs.Bounds.{is_side};
 
 use crate::certs::{Cert, Tree};
 use crate::children::{branch_facts, combination, cut_at, residue, solve_child};
-use crate::clauses::{
-    clause_at, fact_at, has_lower_bound, is_free, is_open_case, is_over_free, with_used,
-};
+use crate::clauses::{clause_at, fact_at, has_lower_bound, is_free, is_open_case, is_over_free};
 use crate::rows::extended;
 use crate::sums::Side;
 use crate::test_points::{count_within, far, is_count, lower_bound, period, point};
+use crate::used::Used;
 use lin_base::{Fact, Lin, Pool, is_false, is_lin};
 use sqlite_items::Items;
 use std::alloc::{AllocError, Global};
 
-/// Whether a certificate stands for a pool, so that the pool is true at no values. Nothing is assumed of the certificate: numbers of clauses, facts, rows or parameters that aren't there, negative multipliers of AtMostZero facts, wrong counts of children and sums whose unknowns don't ascend make it one that doesn't stand. Every number that the rows and the tree form stays in the range.
+/// Whether a certificate stands for a pool, so that the pool is true at no values. Nothing is assumed of the certificate: numbers of clauses, facts, rows or parameters that aren't there, negative multipliers of AtMostZero facts, negative numbers far down, wrong counts of children and sums whose unknowns don't ascend make it one that doesn't stand. Every number that the rows and the tree form stays in the range.
 pub fn check_unsat(alloc: Global, pool: &Pool, cert: &Cert) -> Result<bool, AllocError>
     requires { IsTrue (is_pool pool.now) }
     ensures { IfOk result (λ yes. yes ≡ stands pool.now cert.now) }
@@ -40,22 +39,24 @@ fn root_stands(alloc: Global, pool: &Pool, tree: &Tree) -> Result<bool, AllocErr
     requires { IsTrue (is_pool pool.now) }
     ensures { IfOk result (λ yes. yes ≡ tree_stands pool.now.params pool.now.clauses tree.now [] []) }
 {
+    let mut used = Used::none(alloc);
     let mut facts = Items::new(alloc);
-    tree_stands(alloc, pool, &[], &mut facts, tree)
+    tree_stands(alloc, pool, &mut used, &mut facts, tree)
 }
 
-/// Whether a tree stands at these used-up parameters and facts. After an Ok the facts are as before.
+/// Whether a tree stands at these used-up parameters and facts. After an Ok both are as before.
 #[cycle(tree_stands)]
 fn tree_stands(
     alloc: Global,
     pool: &Pool,
-    used: &[u32],
+    used: &mut Used,
     facts: &mut Items<Fact>,
     tree: &Tree,
 ) -> Result<bool, AllocError>
     requires pool_is { IsTrue (is_pool pool.now) }
     requires facts_are { IsTrue (list_all is_fact facts.old) }
-    ensures answer { IfOk result (λ yes. yes ≡ tree_stands pool.now.params pool.now.clauses tree.now used.now facts.old) }
+    ensures answer { IfOk result (λ yes. yes ≡ tree_stands pool.now.params pool.now.clauses tree.now used.old facts.old) }
+    ensures used { OnOk result (used.new ≡ used.old) }
     ensures facts { OnOk result (facts.new ≡ facts.old) }
 {
     match tree {
@@ -101,10 +102,7 @@ fn tree_stands(
         },
         Tree::Solve { fact, p, child } => {
             match solve_child(alloc, facts.as_slice(), *fact, *p)? {
-                Some(mut made) => {
-                    let used = with_used(alloc, used, *p)?;
-                    tree_stands(alloc, pool, used.as_slice(), &mut made, child.get())
-                }
+                Some(mut made) => stands_without(alloc, pool, used, *p, &mut made, child.get()),
                 None => Ok(false),
             }
         }
@@ -123,12 +121,36 @@ fn tree_stands(
     }
 }
 
+/// Whether a tree stands with `p` used up besides. After an Ok the used-up parameters and the facts are as before.
+#[cycle(tree_stands)]
+#[tactic(auto, using(crate::proofs::UsedUp::used_up))]
+fn stands_without(
+    alloc: Global,
+    pool: &Pool,
+    used: &mut Used,
+    p: u32,
+    facts: &mut Items<Fact>,
+    tree: &Tree,
+) -> Result<bool, AllocError>
+    requires pool_is { IsTrue (is_pool pool.now) }
+    requires facts_are { IsTrue (list_all is_fact facts.old) }
+    ensures answer { IfOk result (λ yes. yes ≡ tree_stands pool.now.params pool.now.clauses tree.now (p ∷ used.old) facts.old) }
+    ensures used { OnOk result (used.new ≡ used.old) }
+    ensures facts { OnOk result (facts.new ≡ facts.old) }
+{
+    let count = used.count();
+    used.add(p)?;
+    let yes = tree_stands(alloc, pool, used, facts, tree)?;
+    used.back_to(count);
+    Ok(yes)
+}
+
 /// Whether a tree stands with one fact more.
 #[cycle(tree_stands)]
 fn stands_with(
     alloc: Global,
     pool: &Pool,
-    used: &[u32],
+    used: &mut Used,
     facts: &mut Items<Fact>,
     fact: Fact,
     tree: &Tree,
@@ -136,7 +158,8 @@ fn stands_with(
     requires pool_is { IsTrue (is_pool pool.now) }
     requires facts_are { IsTrue (list_all is_fact facts.old) }
     requires fact_is { IsTrue (is_fact fact) }
-    ensures answer { IfOk result (λ yes. yes ≡ tree_stands pool.now.params pool.now.clauses tree.now used.now (facts.old ++ fact ∷ [])) }
+    ensures answer { IfOk result (λ yes. yes ≡ tree_stands pool.now.params pool.now.clauses tree.now used.old (facts.old ++ fact ∷ [])) }
+    ensures used { OnOk result (used.new ≡ used.old) }
     ensures facts { OnOk result (facts.new ≡ facts.old) }
 {
     facts.push(fact)?;
@@ -150,7 +173,7 @@ fn stands_with(
 fn each_stands(
     alloc: Global,
     pool: &Pool,
-    used: &[u32],
+    used: &mut Used,
     facts: &mut Items<Fact>,
     literals: &[Fact],
     children: &[Tree],
@@ -158,7 +181,8 @@ fn each_stands(
     requires pool_is { IsTrue (is_pool pool.now) }
     requires facts_are { IsTrue (list_all is_fact facts.old) }
     requires literals_are { IsTrue (list_all is_fact literals.now) }
-    ensures answer { IfOk result (λ yes. yes ≡ each_stands used.now (map (tree_stands pool.now.params pool.now.clauses) children.now) (spec.with_each facts.old literals.now)) }
+    ensures answer { IfOk result (λ yes. yes ≡ each_stands used.old (map (tree_stands pool.now.params pool.now.clauses) children.now) (spec.with_each facts.old literals.now)) }
+    ensures used { OnOk result (used.new ≡ used.old) }
     ensures facts { OnOk result (facts.new ≡ facts.old) }
 {
     let mut rest = literals;
@@ -182,7 +206,7 @@ fn each_stands(
 fn residues_stand(
     alloc: Global,
     pool: &Pool,
-    used: &[u32],
+    used: &mut Used,
     facts: &mut Items<Fact>,
     m: i128,
     t: &Lin,
@@ -190,7 +214,8 @@ fn residues_stand(
 ) -> Result<bool, AllocError>
     requires pool_is { IsTrue (is_pool pool.now) }
     requires facts_are { IsTrue (list_all is_fact facts.old) }
-    ensures answer { IfOk result (λ yes. yes ≡ residues_stand pool.now.params m t.now (map (tree_stands pool.now.params pool.now.clauses) children.now) used.now facts.old) }
+    ensures answer { IfOk result (λ yes. yes ≡ residues_stand pool.now.params m t.now (map (tree_stands pool.now.params pool.now.clauses) children.now) used.old facts.old) }
+    ensures used { OnOk result (used.new ≡ used.old) }
     ensures facts { OnOk result (facts.new ≡ facts.old) }
 {
     if m < 2 || children.len() as i128 != m {
@@ -207,7 +232,7 @@ fn residues_stand(
 fn each_residue_stands(
     alloc: Global,
     pool: &Pool,
-    used: &[u32],
+    used: &mut Used,
     facts: &mut Items<Fact>,
     m: i128,
     t: &Lin,
@@ -217,7 +242,8 @@ fn each_residue_stands(
     requires facts_are { IsTrue (list_all is_fact facts.old) }
     requires m { pos 2 ≤ℤ m }
     requires t { IsTrue (is_lin t.now) }
-    ensures answer { IfOk result (λ yes. yes ≡ numbered_stand (spec.residue_steps t.now) (spec.residue_child facts.old m t.now) used.now 0 (map (tree_stands pool.now.params pool.now.clauses) children.now)) }
+    ensures answer { IfOk result (λ yes. yes ≡ numbered_stand (spec.residue_steps t.now) (spec.residue_child facts.old m t.now) used.old 0 (map (tree_stands pool.now.params pool.now.clauses) children.now)) }
+    ensures used { OnOk result (used.new ≡ used.old) }
     ensures facts { OnOk result (facts.new ≡ facts.old) }
 {
     for (i, child) in children.iter().enumerate() {
@@ -231,19 +257,20 @@ fn each_residue_stands(
     Ok(true)
 }
 
-/// Whether `p` is a parameter that isn't used up, and there is one child for each of its test points, which stands there.
+/// Whether `p` is a parameter that isn't used up, and there is one child for each of its test points, which stands there. After an Ok the used-up parameters are as before.
 #[cycle(tree_stands)]
 fn least_stands(
     alloc: Global,
     pool: &Pool,
-    used: &[u32],
+    used: &mut Used,
     facts: &[Fact],
     p: u32,
     children: &[Tree],
 ) -> Result<bool, AllocError>
     requires pool_is { IsTrue (is_pool pool.now) }
     requires facts_are { IsTrue (list_all is_fact facts.now) }
-    ensures { IfOk result (λ yes. yes ≡ least_stands pool.now.params p (map (tree_stands pool.now.params pool.now.clauses) children.now) used.now facts.now) }
+    ensures answer { IfOk result (λ yes. yes ≡ least_stands pool.now.params p (map (tree_stands pool.now.params pool.now.clauses) children.now) used.old facts.now) }
+    ensures used { OnOk result (used.new ≡ used.old) }
 {
     if !is_free(pool.params, used, p) {
         return Ok(false);
@@ -251,14 +278,13 @@ fn least_stands(
     let Some(d) = period(p, facts)? else {
         return Ok(false);
     };
-    let used = with_used(alloc, used, p)?;
     if has_lower_bound(p, facts) {
-        return bounds_stand(alloc, pool, used.as_slice(), facts, p, &d, children);
+        return bounds_stand(alloc, pool, used, facts, p, &d, children);
     }
     if !is_count(&d, children.len()) {
         return Ok(false);
     }
-    far_stand(alloc, pool, used.as_slice(), facts, p, children)
+    far_stand(alloc, pool, used, facts, p, children)
 }
 
 /// Whether each child stands where `p` is far down and its number modulo the period.
@@ -266,20 +292,21 @@ fn least_stands(
 fn far_stand(
     alloc: Global,
     pool: &Pool,
-    used: &[u32],
+    used: &mut Used,
     facts: &[Fact],
     p: u32,
     children: &[Tree],
 ) -> Result<bool, AllocError>
     requires pool_is { IsTrue (is_pool pool.now) }
     requires facts_are { IsTrue (list_all is_fact facts.now) }
-    ensures { IfOk result (λ yes. yes ≡ numbered_stand (spec.far_child_steps p facts.now) (spec.far_child p facts.now) used.now 0 (map (tree_stands pool.now.params pool.now.clauses) children.now)) }
+    ensures answer { IfOk result (λ yes. yes ≡ numbered_stand (spec.far_child_steps p facts.now) (spec.far_child p facts.now) (p ∷ used.old) 0 (map (tree_stands pool.now.params pool.now.clauses) children.now)) }
+    ensures used { OnOk result (used.new ≡ used.old) }
 {
     for (j, child) in children.iter().enumerate() {
         let Some(mut made) = far(alloc, p, j, facts)? else {
             return Ok(false);
         };
-        if !tree_stands(alloc, pool, used, &mut made, child)? {
+        if !stands_without(alloc, pool, used, p, &mut made, child)? {
             return Ok(false);
         }
     }
@@ -291,7 +318,7 @@ fn far_stand(
 fn points_stand(
     alloc: Global,
     pool: &Pool,
-    used: &[u32],
+    used: &mut Used,
     facts: &[Fact],
     p: u32,
     side: &Side,
@@ -303,14 +330,15 @@ fn points_stand(
     requires facts_are { IsTrue (list_all is_fact facts.now) }
     requires side_is { IsTrue (is_side p side.now) }
     requires within { start + count ≤ length children.now }
-    ensures { IfOk result (λ yes. yes ≡ points_stand p facts.now used.now side.now.b side.now.rest (map (tree_stands pool.now.params pool.now.clauses) (take count (drop start children.now)))) }
+    ensures answer { IfOk result (λ yes. yes ≡ points_stand p facts.now (p ∷ used.old) side.now.b side.now.rest (map (tree_stands pool.now.params pool.now.clauses) (take count (drop start children.now)))) }
+    ensures used { OnOk result (used.new ≡ used.old) }
 {
     for j in 0..count {
         let child = &children[start + j];
         let Some(mut made) = point(alloc, p, side, j, facts)? else {
             return Ok(false);
         };
-        if !tree_stands(alloc, pool, used, &mut made, child)? {
+        if !stands_without(alloc, pool, used, p, &mut made, child)? {
             return Ok(false);
         }
     }
@@ -322,7 +350,7 @@ fn points_stand(
 fn bound_stands(
     alloc: Global,
     pool: &Pool,
-    used: &[u32],
+    used: &mut Used,
     facts: &[Fact],
     p: u32,
     d: &i128,
@@ -334,8 +362,9 @@ fn bound_stands(
     requires facts_are { IsTrue (list_all is_fact facts.now) }
     requires fact { IsTrue (is_fact fact.now) }
     requires start { start ≤ length children.now }
-    ensures count { IfOk result (λ n. n ≡ bound_stands p facts.now used.now (spec.lower_bound p d.now fact.now) (map (tree_stands pool.now.params pool.now.clauses) (drop start children.now))) }
+    ensures count { IfOk result (λ n. n ≡ bound_stands p facts.now (p ∷ used.old) (spec.lower_bound p d.now fact.now) (map (tree_stands pool.now.params pool.now.clauses) (drop start children.now))) }
     ensures within { IfOk result (λ o. IfSome o (λ n. start + n ≤ length children.now)) }
+    ensures used { OnOk result (used.new ≡ used.old) }
 {
     let Some(found) = lower_bound(alloc, p, d, fact)? else {
         return Ok(None);
@@ -368,7 +397,7 @@ fn bound_stands(
 fn bounds_stand(
     alloc: Global,
     pool: &Pool,
-    used: &[u32],
+    used: &mut Used,
     facts: &[Fact],
     p: u32,
     d: &i128,
@@ -376,7 +405,8 @@ fn bounds_stand(
 ) -> Result<bool, AllocError>
     requires pool_is { IsTrue (is_pool pool.now) }
     requires facts_are { IsTrue (list_all is_fact facts.now) }
-    ensures { IfOk result (λ yes. yes ≡ bounds_stand p d.now facts.now used.now facts.now (map (tree_stands pool.now.params pool.now.clauses) children.now)) }
+    ensures answer { IfOk result (λ yes. yes ≡ bounds_stand p d.now facts.now (p ∷ used.old) facts.now (map (tree_stands pool.now.params pool.now.clauses) children.now)) }
+    ensures used { OnOk result (used.new ≡ used.old) }
 {
     let mut start = 0;
     for fact in facts {

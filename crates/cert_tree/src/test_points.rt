@@ -49,9 +49,10 @@ fn next_period(so_far: &i128, x: u32, fact: &Fact) -> Result<i128, Wide>
 
 /// The least common multiple of the moduli of the facts with `x`, or 1.
 #[tactic(auto, using(crate::proofs::Periods::periods))]
-fn formed_period(x: u32, facts: &[Fact]) -> Result<i128, ArithmeticError>
+pub fn formed_period(x: u32, facts: &[Fact]) -> Result<i128, ArithmeticError>
     requires { IsTrue (list_all is_fact facts.now) }
-    ensures { Forms result (points.period_steps x facts.now) (points.period x facts.now) }
+    ensures positive { IfOk result (λ d. pos 1 ≤ℤ d) }
+    ensures value { Forms result (points.period_steps x facts.now) (points.period x facts.now) }
 {
     let mut so_far = 1;
     for fact in facts {

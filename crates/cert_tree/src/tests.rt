@@ -3,6 +3,7 @@ use lin_base::{Fact, Lin, Pool, is_pool};
 use sqlite_items::{Boxed, Items};
 use std::alloc::{AllocError, Global};
 
+/// A sum.
 pub(crate) fn sum(alloc: Global, coefs: &[(u32, i128)], constant: i128) -> Result<Lin, AllocError> {
     Ok(Lin {
         coefs: Items::from_slice(alloc, coefs)?,
@@ -21,6 +22,7 @@ pub(crate) fn unit_pool(alloc: Global, params: u32, facts: Vec<Fact>) -> Result<
     Ok(Pool { params, clauses })
 }
 
+/// A Case of a clause of one literal.
 pub(crate) fn case(alloc: Global, clause: u32, child: Tree) -> Result<Tree, AllocError> {
     let mut children = Items::new(alloc);
     children.push(child)?;
@@ -34,6 +36,7 @@ fn cut(alloc: Global, fact: u32, child: Tree) -> Result<Tree, AllocError> {
     })
 }
 
+/// A Combine over a child.
 pub(crate) fn combine(
     alloc: Global,
     list: &[(u32, i128)],
@@ -146,11 +149,11 @@ fn checks_an_instance(rt: HostRuntime) -> Result<(), AllocError> {
     Ok(())
 }
 
-/// No bound holds for all numbers: far down the literal is left out.
+/// No bound holds for all numbers: far down the literal is left out. A negative number may not be put.
 #[test]
 fn checks_a_clause_far_down(rt: HostRuntime) -> Result<(), AllocError> {
     let alloc = rt.alloc();
-    for (coefficient, stands) in [(-1, true), (1, false)] {
+    for (coefficient, j, stands) in [(-1, 0, true), (-1, 1, true), (-1, -1, false), (1, 0, false)] {
         let bound = Fact::AtMostZero(sum(alloc, &[(0, coefficient)], 1)?);
         let pool = unit_pool(alloc, 0, vec![in alloc; bound]?)?;
         assert!(rt; is_pool(&pool));
@@ -159,12 +162,12 @@ fn checks_a_clause_far_down(rt: HostRuntime) -> Result<(), AllocError> {
             children: Items::new(alloc),
         };
         let mut cert = of_tree(alloc, tree);
-        cert.rows.push(Row::Low {
-            clause: 0,
-            x: 0,
-            j: 0,
-        })?;
-        assert_eq!(rt; check_unsat(alloc, &pool, &cert)?, stands, "{coefficient}");
+        cert.rows.push(Row::Low { clause: 0, x: 0, j })?;
+        assert_eq!(rt;
+            check_unsat(alloc, &pool, &cert)?,
+            stands,
+            "{coefficient} at {j}"
+        );
     }
     Ok(())
 }
