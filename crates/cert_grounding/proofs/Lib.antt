@@ -1,0 +1,4 @@
+pub mod Metering
+pub mod Periods
+pub mod CompleteCounts
+pub mod GroundParts

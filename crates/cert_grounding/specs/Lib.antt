@@ -1,0 +1,3 @@
+pub mod Metering
+pub mod Grounding
+pub mod Laws

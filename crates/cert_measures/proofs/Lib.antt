@@ -1,0 +1,10 @@
+pub mod Noting
+pub mod WalkJoins
+pub mod Remainders
+pub mod Places
+pub mod Choices
+pub mod Walking
+pub mod SearchJoins
+pub mod Putting
+pub mod MeasureParts
+pub mod PoolMetering
