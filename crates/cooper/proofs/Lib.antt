@@ -1,0 +1,10 @@
+pub mod Places
+pub mod Choices
+pub mod Remainders
+pub mod Walking
+pub mod WalkJoins
+pub mod SearchJoins
+pub mod Nodes
+pub mod Changes
+pub mod Unknowns
+pub mod Settling

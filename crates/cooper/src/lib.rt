@@ -1,0 +1,15 @@
+//! Cooper's elimination (Cooper 1972) as a decision procedure: within a limit of rows and nodes, a pool gets a certificate or values.
+#![tactic(auto)]
+
+mod choosing;
+mod deciding;
+mod eliminating;
+mod making;
+mod searching;
+mod sharing;
+#[cfg(test)]
+mod tests;
+mod valuing;
+
+pub use deciding::decide;
+pub use eliminating::eliminate;
