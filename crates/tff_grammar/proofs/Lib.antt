@@ -13,6 +13,7 @@ pub mod Names
 pub mod Places
 pub mod Stops
 pub mod Spans
+pub mod Classified
 pub mod Determined
 pub mod Rows
 pub mod Order

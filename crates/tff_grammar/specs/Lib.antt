@@ -6,6 +6,7 @@ pub mod Machine
 pub mod Notes
 pub mod Words
 pub mod Pieces
+pub mod Left
 pub mod Answer
 pub mod TreeFolds
 pub mod Order

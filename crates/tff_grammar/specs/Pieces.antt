@@ -1,5 +1,5 @@
 -- The tokens of a text as the grammar sees them, by their kinds and their bytes.
-use Rattle.std.specs.Prelude.{◌≡◌, ℕ, ◌-◌, ℤ, List, [], ◌∷◌, take, drop, FitsSigned}
+use Rattle.std.specs.Prelude.{◌≡◌, ℕ, ◌-◌, ◌^◌, ltb, cond, Bool, ℤ, pos, negsuc, List, [], ◌∷◌, take, drop, FitsSigned}
 use Rattle.std.specs.Int.{w128}
 use Rattle.tff_lexer.specs.declared.spans.TokenKind.{TokenKind}
 use Rattle.tff_lexer.specs.declared.spans.TokenKind.TheVariants as kind
@@ -46,3 +46,31 @@ ArePieces bytes [] [] = Unit {0}
 ArePieces bytes [] (p ∷ ps) = ⊥
 ArePieces bytes (t ∷ ts) [] = ⊥
 ArePieces bytes (t ∷ ts) (p ∷ ps) = IsPiece t.kind (bytes_of bytes t) (place t) p × ArePieces bytes ts ps
+
+-- ---- private contracts alone cite what follows: the same, computed
+
+-- the number is one from -2^127 to 2^127 - 1
+abbrev pub fits : ℤ → Bool
+fits (pos n) = ltb n (2 ^ 127)
+fits (negsuc n) = ltb n (2 ^ 127)
+
+-- the one numeral of this number and place
+abbrev pub numeral_piece : ℤ → Span → Piece
+numeral_piece v s = cond (fits v) (piece.Numeral (record { value = v; span = s })) piece.WideNumeral
+
+-- the one token of this kind, with these bytes and at this place
+abbrev pub piece_of : TokenKind → List ℕ → Span → Piece
+piece_of kind.Lower text s = piece.Lower (keyword_of text) s
+piece_of kind.Upper text s = piece.Upper s
+piece_of kind.Dollar text s = dollar_piece text s
+piece_of kind.Quoted text s = piece.Quoted s
+piece_of kind.Distinct text s = piece.Unsupported
+piece_of kind.Numeral text s = numeral_piece (value text) s
+piece_of kind.Rational text s = piece.Unsupported
+piece_of kind.Real text s = piece.Unsupported
+piece_of kind.Sign text s = sign_piece text
+
+-- all of them
+abbrev pub pieces_at : List ℕ → List Token → List Piece
+pieces_at bytes [] = []
+pieces_at bytes (t ∷ ts) = piece_of t.kind (bytes_of bytes t) (place t) ∷ pieces_at bytes ts

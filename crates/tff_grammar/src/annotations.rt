@@ -4,7 +4,7 @@ ghost use Rattle.tff_grammar.specs.Notes.{note_of};
 ghost use Rattle.tff_grammar.specs.Machine.{Reads, Stops};
 ghost use Rattle.tff_grammar.specs.Machine as m;
 
-use crate::cursor::{MAX_LEVELS, deeper, expect, next, syntax};
+use crate::cursor::{MAX_LEVELS, Pieces, copied, count, deeper, expect, next, syntax};
 use crate::faults::Stop;
 use crate::pieces::{Piece, Sign};
 
@@ -35,32 +35,33 @@ fn note_at(piece: Piece) -> Note
 
 /// What is behind a round bracket of annotations, what stands in it, and the other bracket.
 #[cycle(annotations)]
-fn round<'a>(pieces: &'a [Piece], after: &'a [Piece], level: usize) -> Result<&'a [Piece], Stop>
+fn round<'a>(pieces: &Pieces<'a>, after: &Pieces<'a>, level: usize) -> Result<Pieces<'a>, Stop>
     requires level { level ≤ MAX_LEVELS }
     requires front { pieces.now ≡ Piece.Sign Sign.OpenRound ∷ after.now }
-    ensures ok { IfOk result (λ rest. Reads (m.notes ∷ []) [] (m.notes ∷ []) [] level pieces.now rest.now) }
-    ensures rest { IfOk result (λ rest. length rest.now < length pieces.now) }
+    ensures ok { IfOk result (λ rest. Reads (m.notes ∷ []) [] (m.notes ∷ []) [] level pieces.now rest) }
+    ensures rest { IfOk result (λ rest. length rest < length pieces.now) }
     ensures err { IfErr result (Stops (m.notes ∷ []) [] level pieces.now) }
 {
     let inside = deeper(pieces, level)?;
     let behind = annotations(after, inside)?;
-    expect(behind, Sign::CloseRound, inside)
+    expect(&behind, Sign::CloseRound, inside)
 }
 
 /// What is behind annotations: the first closing bracket that none of theirs opens, or the end.
 #[cycle(annotations)]
-pub(crate) fn annotations(pieces: &[Piece], level: usize) -> Result<&[Piece], Stop>
+pub(crate) fn annotations<'a>(pieces: &Pieces<'a>, level: usize) -> Result<Pieces<'a>, Stop>
     requires { level ≤ MAX_LEVELS }
-    ensures ok { IfOk result (λ rest. Reads (m.notes ∷ []) [] [] [] level pieces.now rest.now) }
-    ensures rest { IfOk result (λ rest. length rest.now ≤ length pieces.now) }
+    ensures ok { IfOk result (λ rest. Reads (m.notes ∷ []) [] [] [] level pieces.now rest) }
+    ensures rest { IfOk result (λ rest. length rest ≤ length pieces.now) }
     ensures err { IfErr result (Stops (m.notes ∷ []) [] level pieces.now) }
 {
     let mut squares: usize = 0;
-    let mut rest = pieces;
-    while let Some((piece, after)) = next(rest) {
+    let mut rest = copied(pieces);
+    while let Some((piece, after)) = next(&rest) {
         match note_at(piece) {
-            Note::OpenRound => rest = round(rest, after, level)?,
+            Note::OpenRound => rest = round(&rest, &after, level)?,
             Note::OpenSquare => {
+                prove!(squares < count(pieces));
                 squares += 1;
                 rest = after;
             }
@@ -75,14 +76,14 @@ pub(crate) fn annotations(pieces: &[Piece], level: usize) -> Result<&[Piece], St
                 if squares == 0 {
                     return Ok(rest);
                 }
-                return Err(syntax(rest, level));
+                return Err(syntax(&rest, level));
             }
-            Note::Wide => return Err(syntax(rest, level)),
+            Note::Wide => return Err(syntax(&rest, level)),
             Note::Other => rest = after,
         }
     }
     if squares == 0 {
         return Ok(rest);
     }
-    Err(syntax(rest, level))
+    Err(syntax(&rest, level))
 }

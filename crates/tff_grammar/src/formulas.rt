@@ -5,8 +5,9 @@ ghost use Rattle.tff_grammar.specs.declared.trees.Formula.TheVariants as the_for
 ghost use Rattle.tff_grammar.specs.Machine.{binders_value, formula_value, members_value, EndsChain, Reads, Stops};
 ghost use Rattle.tff_grammar.specs.Machine as m;
 
-use crate::cursor::{MAX_LEVELS, binder_fault, deeper, expect, next, syntax};
+use crate::cursor::{MAX_LEVELS, Pieces, binder_fault, copied, deeper, expect, next, syntax};
 use crate::faults::Stop;
+use crate::lists::{add, exact};
 use crate::pieces::{Junction, Piece, Sign};
 use crate::terms::term;
 use crate::trees::{Formula, Variable};
@@ -15,15 +16,15 @@ use sqlite_items::{Boxed, Items};
 use std::alloc::Global;
 
 /// A variable that a quantifier binds, and its sort where one is written.
-fn variable(pieces: &[Piece], level: usize) -> Result<(Variable, &[Piece]), Stop>
+fn variable<'a>(pieces: &Pieces<'a>, level: usize) -> Result<(Variable, Pieces<'a>), Stop>
     requires { level ≤ MAX_LEVELS }
-    ensures ok { IfOk result (λ (v, rest). (bs : List variables.Variable) → Reads (m.binder ∷ []) (binders_value bs ∷ []) (m.more_binders ∷ []) (binders_value (bs ++ v ∷ []) ∷ []) level pieces.now rest.now) }
-    ensures rest { IfOk result (λ (v, rest). length rest.now < length pieces.now) }
+    ensures ok { IfOk result (λ (v, rest). (bs : List variables.Variable) → Reads (m.binder ∷ []) (binders_value bs ∷ []) (m.more_binders ∷ []) (binders_value (bs ++ v ∷ []) ∷ []) level pieces.now rest) }
+    ensures rest { IfOk result (λ (v, rest). length rest < length pieces.now) }
     ensures err { IfErr result (Stops (m.binder ∷ []) [] level pieces.now) }
 {
     match next(pieces) {
-        Some((Piece::Upper(name), after)) => match next(after) {
-            Some((Piece::Sign(Sign::Colon), behind)) => match next(behind) {
+        Some((Piece::Upper(name), after)) => match next(&after) {
+            Some((Piece::Sign(Sign::Colon), behind)) => match next(&behind) {
                 Some((piece, rest)) => match argument_sort(piece) {
                     Some(sort) => Ok((
                         Variable {
@@ -32,9 +33,9 @@ fn variable(pieces: &[Piece], level: usize) -> Result<(Variable, &[Piece]), Stop
                         },
                         rest,
                     )),
-                    None => Err(binder_fault(behind, level)),
+                    None => Err(binder_fault(&behind, level)),
                 },
-                None => Err(binder_fault(behind, level)),
+                None => Err(binder_fault(&behind, level)),
             },
             _ => Ok((Variable { name, sort: None }, after)),
         },
@@ -43,40 +44,40 @@ fn variable(pieces: &[Piece], level: usize) -> Result<(Variable, &[Piece]), Stop
 }
 
 /// The variables that a quantifier binds, and the bracket behind them.
-fn variables(
+fn variables<'a>(
     alloc: Global,
-    pieces: &[Piece],
+    pieces: &Pieces<'a>,
     level: usize,
-) -> Result<(Items<Variable>, &[Piece]), Stop>
+) -> Result<(Items<Variable>, Pieces<'a>), Stop>
     requires { level ≤ MAX_LEVELS }
-    ensures ok { IfOk result (λ (vs, rest). Reads (m.binder ∷ []) (binders_value [] ∷ []) [] (binders_value vs ∷ []) level pieces.now rest.now) }
-    ensures rest { IfOk result (λ (vs, rest). length rest.now ≤ length pieces.now) }
+    ensures ok { IfOk result (λ (vs, rest). Reads (m.binder ∷ []) (binders_value [] ∷ []) [] (binders_value vs ∷ []) level pieces.now rest) }
+    ensures rest { IfOk result (λ (vs, rest). length rest ≤ length pieces.now) }
     ensures err { IfErr result (Stops (m.binder ∷ []) (binders_value [] ∷ []) level pieces.now) }
 {
-    let mut variables = Items::new(alloc);
-    let mut rest = pieces;
+    let mut variables = Vec::new(alloc);
+    let mut rest = copied(pieces);
     loop {
-        let (variable, behind) = variable(rest, level)?;
-        variables.push(variable)?;
-        match next(behind) {
+        let (variable, behind) = variable(&rest, level)?;
+        add(&mut variables, variable)?;
+        match next(&behind) {
             Some((Piece::Sign(Sign::Comma), after)) => rest = after,
-            Some((Piece::Sign(Sign::CloseSquare), after)) => return Ok((variables, after)),
-            _ => return Err(syntax(behind, level)),
+            Some((Piece::Sign(Sign::CloseSquare), after)) => return Ok((exact(variables), after)),
+            _ => return Err(syntax(&behind, level)),
         }
     }
 }
 
 /// A term, or two with a sign between them.
-fn atom(alloc: Global, pieces: &[Piece], level: usize) -> Result<(Formula, &[Piece]), Stop>
+fn atom<'a>(alloc: Global, pieces: &Pieces<'a>, level: usize) -> Result<(Formula, Pieces<'a>), Stop>
     requires { level ≤ MAX_LEVELS }
-    ensures ok { IfOk result (λ (f, rest). Reads (m.term ∷ m.second ∷ []) [] [] (formula_value f ∷ []) level pieces.now rest.now) }
-    ensures rest { IfOk result (λ (f, rest). length rest.now < length pieces.now) }
+    ensures ok { IfOk result (λ (f, rest). Reads (m.term ∷ m.second ∷ []) [] [] (formula_value f ∷ []) level pieces.now rest) }
+    ensures rest { IfOk result (λ (f, rest). length rest < length pieces.now) }
     ensures err { IfErr result (Stops (m.term ∷ m.second ∷ []) [] level pieces.now) }
 {
     let (left, rest) = term(alloc, pieces, level)?;
-    match next(rest) {
+    match next(&rest) {
         Some((Piece::Relation(relation), after)) => {
-            let (right, behind) = term(alloc, after, level)?;
+            let (right, behind) = term(alloc, &after, level)?;
             Ok((Formula::Relation(relation, left, right), behind))
         }
         _ => Ok((Formula::Atom(left), rest)),
@@ -84,8 +85,8 @@ fn atom(alloc: Global, pieces: &[Piece], level: usize) -> Result<(Formula, &[Pie
 }
 
 /// What stands behind this sign at the front, where it does.
-fn behind_junction(pieces: &[Piece], junction: Junction) -> Option<&[Piece]>
-    ensures { MatchOption result (EndsChain junction pieces.now) (λ rest. pieces.now ≡ Piece.Junction junction ∷ rest.now) }
+fn behind_junction<'a>(pieces: &Pieces<'a>, junction: Junction) -> Option<Pieces<'a>>
+    ensures { MatchOption result (EndsChain junction pieces.now) (λ rest. pieces.now ≡ Piece.Junction junction ∷ rest) }
 {
     match next(pieces) {
         Some((Piece::Junction(found), rest)) if found == junction => Some(rest),
@@ -94,24 +95,24 @@ fn behind_junction(pieces: &[Piece], junction: Junction) -> Option<&[Piece]>
 }
 
 #[cycle(formula)]
-fn unit(alloc: Global, pieces: &[Piece], level: usize) -> Result<(Formula, &[Piece]), Stop>
+fn unit<'a>(alloc: Global, pieces: &Pieces<'a>, level: usize) -> Result<(Formula, Pieces<'a>), Stop>
     requires { level ≤ MAX_LEVELS }
-    ensures ok { IfOk result (λ (f, rest). Reads (m.unit ∷ []) [] [] (formula_value f ∷ []) level pieces.now rest.now) }
-    ensures rest { IfOk result (λ (f, rest). length rest.now < length pieces.now) }
+    ensures ok { IfOk result (λ (f, rest). Reads (m.unit ∷ []) [] [] (formula_value f ∷ []) level pieces.now rest) }
+    ensures rest { IfOk result (λ (f, rest). length rest < length pieces.now) }
     ensures err { IfErr result (Stops (m.unit ∷ []) [] level pieces.now) }
 {
     match next(pieces) {
         Some((Piece::Sign(Sign::Not), after)) => {
             let inside = deeper(pieces, level)?;
-            let (operand, rest) = unit(alloc, after, inside)?;
+            let (operand, rest) = unit(alloc, &after, inside)?;
             Ok((Formula::Not(Boxed::new(alloc, operand)?), rest))
         }
         Some((Piece::Quantifier(quantifier), after)) => {
             let inside = deeper(pieces, level)?;
-            let open = expect(after, Sign::OpenSquare, inside)?;
-            let (variables, close) = variables(alloc, open, inside)?;
-            let behind = expect(close, Sign::Colon, inside)?;
-            let (body, rest) = unit(alloc, behind, inside)?;
+            let open = expect(&after, Sign::OpenSquare, inside)?;
+            let (variables, close) = variables(alloc, &open, inside)?;
+            let behind = expect(&close, Sign::Colon, inside)?;
+            let (body, rest) = unit(alloc, &behind, inside)?;
             Ok((
                 Formula::Quantified(quantifier, variables, Boxed::new(alloc, body)?),
                 rest,
@@ -119,8 +120,8 @@ fn unit(alloc: Global, pieces: &[Piece], level: usize) -> Result<(Formula, &[Pie
         }
         Some((Piece::Sign(Sign::OpenRound), after)) => {
             let inside = deeper(pieces, level)?;
-            let (formula, behind) = formula(alloc, after, inside)?;
-            let rest = expect(behind, Sign::CloseRound, inside)?;
+            let (formula, behind) = formula(alloc, &after, inside)?;
+            let rest = expect(&behind, Sign::CloseRound, inside)?;
             Ok((formula, rest))
         }
         Some((Piece::Constant(constant), rest)) => Ok((Formula::Constant(constant), rest)),
@@ -129,20 +130,20 @@ fn unit(alloc: Global, pieces: &[Piece], level: usize) -> Result<(Formula, &[Pie
 }
 
 #[cycle(formula)]
-pub(crate) fn formula(
+pub(crate) fn formula<'a>(
     alloc: Global,
-    pieces: &[Piece],
+    pieces: &Pieces<'a>,
     level: usize,
-) -> Result<(Formula, &[Piece]), Stop>
+) -> Result<(Formula, Pieces<'a>), Stop>
     requires { level ≤ MAX_LEVELS }
-    ensures ok { IfOk result (λ (f, rest). Reads (m.unit ∷ m.tail ∷ []) [] [] (formula_value f ∷ []) level pieces.now rest.now) }
-    ensures rest { IfOk result (λ (f, rest). length rest.now < length pieces.now) }
+    ensures ok { IfOk result (λ (f, rest). Reads (m.unit ∷ m.tail ∷ []) [] [] (formula_value f ∷ []) level pieces.now rest) }
+    ensures rest { IfOk result (λ (f, rest). length rest < length pieces.now) }
     ensures err { IfErr result (Stops (m.unit ∷ m.tail ∷ []) [] level pieces.now) }
 {
     let (first, rest) = unit(alloc, pieces, level)?;
-    match next(rest) {
+    match next(&rest) {
         Some((Piece::Link(link), after)) => {
-            let (second, behind) = unit(alloc, after, level)?;
+            let (second, behind) = unit(alloc, &after, level)?;
             let formula = Formula::Linked(
                 link,
                 Boxed::new(alloc, first)?,
@@ -151,7 +152,7 @@ pub(crate) fn formula(
             Ok((formula, behind))
         }
         Some((Piece::Junction(junction), after)) => {
-            let (members, behind) = members(alloc, junction, first, after, level)?;
+            let (members, behind) = members(alloc, junction, first, &after, level)?;
             Ok((Formula::Joined(junction, members), behind))
         }
         _ => Ok((first, rest)),
@@ -160,27 +161,27 @@ pub(crate) fn formula(
 
 /// The formulas behind a first one that the same sign joins to it.
 #[cycle(formula)]
-fn members(
+fn members<'a>(
     alloc: Global,
     junction: Junction,
     first: Formula,
-    pieces: &[Piece],
+    pieces: &Pieces<'a>,
     level: usize,
-) -> Result<(Items<Formula>, &[Piece]), Stop>
+) -> Result<(Items<Formula>, Pieces<'a>), Stop>
     requires { level ≤ MAX_LEVELS }
-    ensures ok { IfOk result (λ (fs, rest). Reads (m.unit ∷ m.chain junction ∷ []) (members_value (first ∷ []) ∷ []) [] (formula_value (the_formulas.Joined junction fs) ∷ []) level pieces.now rest.now) }
-    ensures rest { IfOk result (λ (fs, rest). length rest.now < length pieces.now) }
+    ensures ok { IfOk result (λ (fs, rest). Reads (m.unit ∷ m.chain junction ∷ []) (members_value (first ∷ []) ∷ []) [] (formula_value (the_formulas.Joined junction fs) ∷ []) level pieces.now rest) }
+    ensures rest { IfOk result (λ (fs, rest). length rest < length pieces.now) }
     ensures err { IfErr result (Stops (m.unit ∷ m.chain junction ∷ []) (members_value (first ∷ []) ∷ []) level pieces.now) }
 {
-    let mut members = Items::new(alloc);
-    members.push(first)?;
-    let mut rest = pieces;
+    let mut members = Vec::new(alloc);
+    add(&mut members, first)?;
+    let mut rest = copied(pieces);
     loop {
-        let (member, behind) = unit(alloc, rest, level)?;
-        members.push(member)?;
-        match behind_junction(behind, junction) {
+        let (member, behind) = unit(alloc, &rest, level)?;
+        add(&mut members, member)?;
+        match behind_junction(&behind, junction) {
             Some(after) => rest = after,
-            None => return Ok((members, behind)),
+            None => return Ok((exact(members), behind)),
         }
     }
 }

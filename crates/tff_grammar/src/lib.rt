@@ -6,6 +6,7 @@ mod cursor;
 mod faults;
 mod formulas;
 mod laws;
+mod lists;
 mod pieces;
 mod reader;
 mod statements;

@@ -3,9 +3,9 @@ ghost use Rattle.std.specs.Prelude.{◌≡◌, ◌≤◌, IfOk, IfErr, MatchResu
 ghost use Rattle.tff_grammar.specs.declared.trees.Statement as the_statements;
 ghost use Rattle.tff_grammar.specs.Answer.{IsText, Explains, IsThere};
 
+use crate::cursor::Pieces;
 use crate::faults::{Fault, FaultName, Found, ParseError, Stop};
 use crate::statements::statements;
-use crate::tokens::pieces;
 use crate::trees::Statement;
 use sqlite_items::Items;
 use std::alloc::Global;
@@ -49,7 +49,7 @@ pub fn parse(alloc: Global, bytes: &[u8]) -> Result<Items<Statement>, ParseError
     one_scan();
     token_texts();
     let scan = tokens(alloc, bytes)?;
-    let pieces = pieces(alloc, bytes, &scan.tokens)?;
+    let pieces = Pieces::new(bytes, &scan.tokens);
     match statements(alloc, &pieces) {
         Ok(statements) => match scan.stop {
             None => Ok(statements),

@@ -5,7 +5,7 @@ ghost use Rattle.tff_grammar.specs.Machine.{Stack, Values, file_value, name_valu
 ghost use Rattle.tff_grammar.specs.Machine as m;
 
 use crate::annotations::annotations;
-use crate::cursor::{expect, next, role_fault, start_fault, syntax};
+use crate::cursor::{Pieces, copied, expect, next, role_fault, start_fault, syntax};
 use crate::faults::Stop;
 use crate::formulas::formula;
 use crate::pieces::{Keyword, Piece, Sign, Span};
@@ -15,9 +15,9 @@ use sqlite_items::Items;
 use std::alloc::Global;
 
 /// The place of a statement's name.
-fn name(pieces: &[Piece]) -> Result<(Span, &[Piece]), Stop>
-    ensures ok { IfOk result (λ (s, rest). Reads (m.a_name ∷ []) [] [] (name_value s ∷ []) 0 pieces.now rest.now) }
-    ensures rest { IfOk result (λ (s, rest). length rest.now < length pieces.now) }
+fn name<'a>(pieces: &Pieces<'a>) -> Result<(Span, Pieces<'a>), Stop>
+    ensures ok { IfOk result (λ (s, rest). Reads (m.a_name ∷ []) [] [] (name_value s ∷ []) 0 pieces.now rest) }
+    ensures rest { IfOk result (λ (s, rest). length rest < length pieces.now) }
     ensures err { IfErr result (Stops (m.a_name ∷ []) [] 0 pieces.now) }
 {
     match next(pieces) {
@@ -28,25 +28,29 @@ fn name(pieces: &[Piece]) -> Result<(Span, &[Piece]), Stop>
 }
 
 /// What stands behind a role and a comma, by the role; `again` where a conjecture came before.
-fn content(alloc: Global, pieces: &[Piece], again: bool) -> Result<(Content, &[Piece]), Stop>
-    ensures ok { IfOk result (λ (c, rest). (k : Stack) (vs : Values) → go (m.role again ∷ k) vs pieces.now ≡ go (m.ending ∷ m.statements (again_behind again c) ∷ k) (content_values c vs) rest.now) }
-    ensures rest { IfOk result (λ (c, rest). length rest.now ≤ length pieces.now) }
+fn content<'a>(
+    alloc: Global,
+    pieces: &Pieces<'a>,
+    again: bool,
+) -> Result<(Content, Pieces<'a>), Stop>
+    ensures ok { IfOk result (λ (c, rest). (k : Stack) (vs : Values) → go (m.role again ∷ k) vs pieces.now ≡ go (m.ending ∷ m.statements (again_behind again c) ∷ k) (content_values c vs) rest) }
+    ensures rest { IfOk result (λ (c, rest). length rest ≤ length pieces.now) }
     ensures err { IfErr result (Stops (m.role again ∷ []) [] 0 pieces.now) }
 {
     match next(pieces) {
         Some((Piece::Lower(Keyword::Declaration, _), after)) => {
-            let behind = expect(after, Sign::Comma, 0)?;
-            let ((word, given), rest) = typing(alloc, behind, 0)?;
+            let behind = expect(&after, Sign::Comma, 0)?;
+            let ((word, given), rest) = typing(alloc, &behind, 0)?;
             Ok((Content::Declaration(word, given), rest))
         }
         Some((Piece::Lower(Keyword::Premise, _), after)) => {
-            let behind = expect(after, Sign::Comma, 0)?;
-            let (premise, rest) = formula(alloc, behind, 0)?;
+            let behind = expect(&after, Sign::Comma, 0)?;
+            let (premise, rest) = formula(alloc, &behind, 0)?;
             Ok((Content::Premise(premise), rest))
         }
         Some((Piece::Lower(Keyword::Conjecture, _), after)) if !again => {
-            let behind = expect(after, Sign::Comma, 0)?;
-            let (conjecture, rest) = formula(alloc, behind, 0)?;
+            let behind = expect(&after, Sign::Comma, 0)?;
+            let (conjecture, rest) = formula(alloc, &behind, 0)?;
             Ok((Content::Conjecture(conjecture), rest))
         }
         _ => Err(role_fault(pieces)),
@@ -54,34 +58,37 @@ fn content(alloc: Global, pieces: &[Piece], again: bool) -> Result<(Content, &[P
 }
 
 /// The end of a statement, behind annotations where there are some.
-fn ending(pieces: &[Piece]) -> Result<&[Piece], Stop>
-    ensures ok { IfOk result (λ rest. (k : Stack) (vs : Values) → m.levels k ≡ 0 → go (m.ending ∷ k) vs pieces.now ≡ go k (m.ending_taken vs) rest.now) }
-    ensures rest { IfOk result (λ rest. length rest.now ≤ length pieces.now) }
+fn ending<'a>(pieces: &Pieces<'a>) -> Result<Pieces<'a>, Stop>
+    ensures ok { IfOk result (λ rest. (k : Stack) (vs : Values) → m.levels k ≡ 0 → go (m.ending ∷ k) vs pieces.now ≡ go k (m.ending_taken vs) rest) }
+    ensures rest { IfOk result (λ rest. length rest ≤ length pieces.now) }
     ensures err { IfErr result (Stops (m.ending ∷ []) [] 0 pieces.now) }
 {
     let behind = match next(pieces) {
         Some((Piece::Sign(Sign::CloseRound), after)) => after,
-        Some((Piece::Sign(Sign::Comma), after)) => expect(
-            annotations(after, 0)?,
-            Sign::CloseRound,
-            0,
-        )?,
+        Some((Piece::Sign(Sign::Comma), after)) => {
+            let close = annotations(&after, 0)?;
+            expect(&close, Sign::CloseRound, 0)?
+        }
         _ => return Err(syntax(pieces, 0)),
     };
-    expect(behind, Sign::Dot, 0)
+    expect(&behind, Sign::Dot, 0)
 }
 
 /// A statement behind its first word; `again` where a conjecture came before.
-fn statement(alloc: Global, pieces: &[Piece], again: bool) -> Result<(Statement, &[Piece]), Stop>
-    ensures ok { IfOk result (λ (s, rest). (ss : List the_statements.Statement) → go (m.sign Sign.OpenRound ∷ m.a_name ∷ m.sign Sign.Comma ∷ m.role again ∷ []) (file_value ss ∷ []) pieces.now ≡ go (m.statements (again_behind again s.content) ∷ []) (file_value (ss ++ s ∷ []) ∷ []) rest.now) }
-    ensures rest { IfOk result (λ (s, rest). length rest.now ≤ length pieces.now) }
+fn statement<'a>(
+    alloc: Global,
+    pieces: &Pieces<'a>,
+    again: bool,
+) -> Result<(Statement, Pieces<'a>), Stop>
+    ensures ok { IfOk result (λ (s, rest). (ss : List the_statements.Statement) → go (m.sign Sign.OpenRound ∷ m.a_name ∷ m.sign Sign.Comma ∷ m.role again ∷ []) (file_value ss ∷ []) pieces.now ≡ go (m.statements (again_behind again s.content) ∷ []) (file_value (ss ++ s ∷ []) ∷ []) rest) }
+    ensures rest { IfOk result (λ (s, rest). length rest ≤ length pieces.now) }
     ensures err { IfErr result (Stops (m.sign Sign.OpenRound ∷ m.a_name ∷ m.sign Sign.Comma ∷ m.role again ∷ []) [] 0 pieces.now) }
 {
     let inner = expect(pieces, Sign::OpenRound, 0)?;
-    let (name, after) = name(inner)?;
-    let behind = expect(after, Sign::Comma, 0)?;
-    let (content, close) = content(alloc, behind, again)?;
-    let rest = ending(close)?;
+    let (name, after) = name(&inner)?;
+    let behind = expect(&after, Sign::Comma, 0)?;
+    let (content, close) = content(alloc, &behind, again)?;
+    let rest = ending(&close)?;
     Ok((Statement { name, content }, rest))
 }
 
@@ -95,21 +102,21 @@ fn is_conjecture(content: &Content) -> bool
 }
 
 /// All statements of a text.
-pub(crate) fn statements(alloc: Global, pieces: &[Piece]) -> Result<Items<Statement>, Stop>
+pub(crate) fn statements(alloc: Global, pieces: &Pieces) -> Result<Items<Statement>, Stop>
     ensures ok { IfOk result (λ ss. read pieces.now ≡ whole (file_value ss ∷ [])) }
     ensures err { IfErr result (Faults pieces.now) }
 {
     let mut statements = Items::new(alloc);
     let mut again = false;
-    let mut rest = pieces;
-    while let Some((Piece::Lower(Keyword::Tff, _), after)) = next(rest) {
-        let (statement, behind) = statement(alloc, after, again)?;
+    let mut rest = copied(pieces);
+    while let Some((Piece::Lower(Keyword::Tff, _), after)) = next(&rest) {
+        let (statement, behind) = statement(alloc, &after, again)?;
         again = again || is_conjecture(&statement.content);
         statements.push(statement)?;
         rest = behind;
     }
-    match next(rest) {
+    match next(&rest) {
         None => Ok(statements),
-        Some(_) => Err(start_fault(rest)),
+        Some(_) => Err(start_fault(&rest)),
     }
 }

@@ -4,8 +4,9 @@ ghost use Rattle.tff_grammar.specs.declared.trees.Term.TheVariants as the_terms;
 ghost use Rattle.tff_grammar.specs.Machine.{term_head, head_value, term_value, Reads, Stops};
 ghost use Rattle.tff_grammar.specs.Machine as m;
 
-use crate::cursor::{MAX_LEVELS, deeper, next, syntax};
+use crate::cursor::{MAX_LEVELS, Pieces, copied, deeper, next, syntax};
 use crate::faults::Stop;
+use crate::lists::{add, exact};
 use crate::pieces::{Piece, Sign};
 use crate::trees::{Head, Term, Word};
 use sqlite_items::Items;
@@ -24,17 +25,21 @@ fn term_head(piece: Piece) -> Option<Head>
 }
 
 #[cycle(term)]
-pub(crate) fn term(alloc: Global, pieces: &[Piece], level: usize) -> Result<(Term, &[Piece]), Stop>
+pub(crate) fn term<'a>(
+    alloc: Global,
+    pieces: &Pieces<'a>,
+    level: usize,
+) -> Result<(Term, Pieces<'a>), Stop>
     requires { level ≤ MAX_LEVELS }
-    ensures ok { IfOk result (λ (t, rest). Reads (m.term ∷ []) [] [] (term_value t ∷ []) level pieces.now rest.now) }
-    ensures rest { IfOk result (λ (t, rest). length rest.now < length pieces.now) }
+    ensures ok { IfOk result (λ (t, rest). Reads (m.term ∷ []) [] [] (term_value t ∷ []) level pieces.now rest) }
+    ensures rest { IfOk result (λ (t, rest). length rest < length pieces.now) }
     ensures err { IfErr result (Stops (m.term ∷ []) [] level pieces.now) }
 {
     match next(pieces) {
         Some((Piece::Upper(span), rest)) => Ok((Term::Variable(span), rest)),
         Some((Piece::Numeral(number), rest)) => Ok((Term::Numeral(number), rest)),
         Some((piece, rest)) => match term_head(piece) {
-            Some(head) => arguments(alloc, head, rest, level),
+            Some(head) => arguments(alloc, head, &rest, level),
             None => Err(syntax(pieces, level)),
         },
         None => Err(syntax(pieces, level)),
@@ -43,49 +48,49 @@ pub(crate) fn term(alloc: Global, pieces: &[Piece], level: usize) -> Result<(Ter
 
 /// The term of a head and what stands behind it.
 #[cycle(term)]
-fn arguments(
+fn arguments<'a>(
     alloc: Global,
     head: Head,
-    pieces: &[Piece],
+    pieces: &Pieces<'a>,
     level: usize,
-) -> Result<(Term, &[Piece]), Stop>
+) -> Result<(Term, Pieces<'a>), Stop>
     requires { level ≤ MAX_LEVELS }
-    ensures ok { IfOk result (λ (t, rest). Reads (m.arguments ∷ []) (head_value head [] ∷ []) [] (term_value t ∷ []) level pieces.now rest.now) }
-    ensures rest { IfOk result (λ (t, rest). length rest.now ≤ length pieces.now) }
+    ensures ok { IfOk result (λ (t, rest). Reads (m.arguments ∷ []) (head_value head [] ∷ []) [] (term_value t ∷ []) level pieces.now rest) }
+    ensures rest { IfOk result (λ (t, rest). length rest ≤ length pieces.now) }
     ensures err { IfErr result (Stops (m.arguments ∷ []) (head_value head [] ∷ []) level pieces.now) }
 {
     match next(pieces) {
         Some((Piece::Sign(Sign::OpenRound), after)) => {
             deeper(pieces, level)?;
-            let (arguments, rest) = terms(alloc, head, after, level)?;
+            let (arguments, rest) = terms(alloc, head, &after, level)?;
             Ok((Term::Apply(head, arguments), rest))
         }
-        _ => Ok((Term::Apply(head, Items::new(alloc)), pieces)),
+        _ => Ok((Term::Apply(head, Items::new(alloc)), copied(pieces))),
     }
 }
 
 /// The arguments of a head up to the bracket that closes them, in a bracket above `level` levels.
 #[cycle(term)]
-fn terms(
+fn terms<'a>(
     alloc: Global,
     head: Head,
-    pieces: &[Piece],
+    pieces: &Pieces<'a>,
     level: usize,
-) -> Result<(Items<Term>, &[Piece]), Stop>
+) -> Result<(Items<Term>, Pieces<'a>), Stop>
     requires { level < MAX_LEVELS }
-    ensures ok { IfOk result (λ (ts, rest). Reads (m.term ∷ m.more_terms ∷ []) (head_value head [] ∷ []) [] (term_value (the_terms.Apply head ts) ∷ []) level pieces.now rest.now) }
-    ensures rest { IfOk result (λ (ts, rest). length rest.now ≤ length pieces.now) }
+    ensures ok { IfOk result (λ (ts, rest). Reads (m.term ∷ m.more_terms ∷ []) (head_value head [] ∷ []) [] (term_value (the_terms.Apply head ts) ∷ []) level pieces.now rest) }
+    ensures rest { IfOk result (λ (ts, rest). length rest ≤ length pieces.now) }
     ensures err { IfErr result (Stops (m.term ∷ m.more_terms ∷ []) (head_value head [] ∷ []) level pieces.now) }
 {
-    let mut terms = Items::new(alloc);
-    let mut rest = pieces;
+    let mut terms = Vec::new(alloc);
+    let mut rest = copied(pieces);
     loop {
-        let (term, behind) = term(alloc, rest, level + 1)?;
-        terms.push(term)?;
-        match next(behind) {
+        let (term, behind) = term(alloc, &rest, level + 1)?;
+        add(&mut terms, term)?;
+        match next(&behind) {
             Some((Piece::Sign(Sign::Comma), after)) => rest = after,
-            Some((Piece::Sign(Sign::CloseRound), after)) => return Ok((terms, after)),
-            _ => return Err(syntax(behind, level + 1)),
+            Some((Piece::Sign(Sign::CloseRound), after)) => return Ok((exact(terms), after)),
+            _ => return Err(syntax(&behind, level + 1)),
         }
     }
 }

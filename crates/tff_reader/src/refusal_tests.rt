@@ -299,6 +299,21 @@ fn one_phase(rt: HostRuntime) {
     }
 }
 
+/// Problems as users write them.
+#[test]
+fn accepted(rt: HostRuntime) {
+    let rows: [&[u8]; 4] = [
+        b"tff(x,type,x:$int).\ntff(y,type,y:$int).\ntff(a,axiom,$lesseq(1,$difference($product(3,x),$product(3,y)))).\ntff(b,axiom,$lesseq($difference($product(3,x),$product(3,y)),2)).\n",
+        b"tff(f,type,f:$int>$int). tff(a,axiom,![X:$int]:$greater(f(X),X)). tff(c,conjecture,$greater(f(f(0)),1)).",
+        b"tff(p,type,p:$int>$o). tff(a,axiom,p(0)). tff(b,axiom,![X:$int]:(p(X)=>p($sum(X,1)))).",
+        b"tff(array_type,type,array: $tType).\ntff(read_type,type,read: (array * $int) > $int).\ntff(write_type,type,write: (array * $int * $int) > array).\ntff(m_type,type,m: array).\ntff(a1,axiom,! [A: array, I: $int, V: $int] : read(write(A,I,V),I) = V).\ntff(a2,axiom,! [A: array, I: $int, J: $int, V: $int] :\n    ( I = J | read(write(A,I,V),J) = read(A,J) )).\ntff(c,conjecture,! [I: $int] :\n    $greater(read(write(write(m,I,3),$sum(I,1),5),I),2)).\n",
+    ];
+    for text in rows {
+        let got = answer(rt.alloc(), text).expect(&rt, "memory");
+        assert_eq!(rt; got.as_str(), "ok");
+    }
+}
+
 /// The first bytes of a text.
 #[test]
 fn cut_texts(rt: HostRuntime) {

@@ -12,7 +12,7 @@ formula-returns-in_ok-new-in-Some-Link-default-2-clause-ok t c =
     let s = c.in_ok-second-in-Some-Link-default in
     let e = rw a.field-0-0-is at a.ensures in
     rw (c.in_ok-new-in-Some-Link-default.ensures, c.in_ok-new-in-Some-Link-default-2.ensures)
-    (link_reads c.args.level c.args.pieces.now f.rest.now a.after.now s.behind.now a.link f.first s.second f.ensures.ok e s.ensures.ok)
+    (link_reads c.args.level c.args.pieces.now f.rest a.after s.behind a.link f.first s.second f.ensures.ok e s.ensures.ok)
 
 pub unit-returns-in_ok-new-in-Some-Sign-Not-default-clause-ok : goal.unit-returns-in_ok-new-in-Some-Sign-Not-default-clause-ok
 unit-returns-in_ok-new-in-Some-Sign-Not-default-clause-ok t c =
@@ -22,7 +22,7 @@ unit-returns-in_ok-new-in-Some-Sign-Not-default-clause-ok t c =
     let e = rw (a.field-0-0-is, a.field-0-0-0-is) at a.ensures in
     let deep : c.args.level + 1 ≤ 500 = omega (arith, d) in
     let inner = rw d.0 at s.ensures.ok in
-    rw c.in_ok-new-in-Some-Sign-Not-default.ensures (not_reads c.args.level c.args.pieces.now a.after.now s.rest.now s.operand e deep inner)
+    rw c.in_ok-new-in-Some-Sign-Not-default.ensures (not_reads c.args.level c.args.pieces.now a.after s.rest s.operand e deep inner)
 
 pub unit-returns-in_ok-new-in-Some-Quantifier-default-clause-ok : goal.unit-returns-in_ok-new-in-Some-Quantifier-default-clause-ok
 unit-returns-in_ok-new-in-Some-Quantifier-default-clause-ok t c =
@@ -37,7 +37,7 @@ unit-returns-in_ok-new-in-Some-Quantifier-default-clause-ok t c =
     let inner = rw d.0 at s.ensures.ok in
     let binders = rw d.0 at v.ensures.ok in
     rw (c.in_ok-new-in-Some-Quantifier-default.ensures, c.variables-in-Some-Quantifier-default.view_is)
-    (quantified_reads c.args.level c.args.pieces.now a.after.now o.open.now v.close.now b.behind.now s.rest.now a.quantifier v.variables s.body e deep o.ensures.ok binders b.ensures.ok inner)
+    (quantified_reads c.args.level c.args.pieces.now a.after o.open v.close b.behind s.rest a.quantifier v.variables s.body e deep o.ensures.ok binders b.ensures.ok inner)
 
 pub unit-returns-in_default-clause-err : goal.unit-returns-in_default-clause-err
 unit-returns-in_default-clause-err t c =
@@ -47,5 +47,5 @@ unit-returns-in_default-clause-err t c =
 pub members-returns-in-None-clause-ok : goal.members-returns-in-None-clause-ok
 members-returns-in-None-clause-ok t c =
     let s = c.in_ok-member in
-    rw c.in_ok-push-2.ensures.ok
-    (members_end c.args.level c.args.pieces.now c.loop-members.rest.now s.behind.now c.args.junction c.args.first c.loop-members.members s.member c.loop-members.invariant.read s.ensures.ok c.in-None.ensures)
+    rw (c.exact.ensures, c.in_ok-add-2.ensures)
+    (members_end c.args.level c.args.pieces.now c.loop-members.rest s.behind c.args.junction c.args.first c.loop-members.members.items s.member c.loop-members.invariant.read s.ensures.ok c.in-None.ensures)

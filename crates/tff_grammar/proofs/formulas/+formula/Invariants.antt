@@ -14,7 +14,7 @@ decreases-members l = 2 * length l.pieces.now + 1
 
 abbrev pub invariant-members-loop-members : goal.invariant-members-loop-members
 invariant-members-loop-members l = record {
-  read : Reads (m.unit ∷ m.chain l.fn.junction ∷ []) (members_value (l.fn.first ∷ []) ∷ []) (m.unit ∷ m.chain l.fn.junction ∷ []) (members_value l.members ∷ []) l.fn.level l.fn.pieces l.rest;
+  read : Reads (m.unit ∷ m.chain l.fn.junction ∷ []) (members_value (l.fn.first ∷ []) ∷ []) (m.unit ∷ m.chain l.fn.junction ∷ []) (members_value l.members.items ∷ []) l.fn.level l.fn.pieces l.rest;
   rest : length l.rest ≤ length l.fn.pieces;
 }
 

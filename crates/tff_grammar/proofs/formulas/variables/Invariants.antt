@@ -5,7 +5,7 @@ use Rattle.tff_grammar.proofs.formulas.variables.Given as goal
 
 abbrev pub invariant-loop-variables : goal.invariant-loop-variables
 invariant-loop-variables l = record {
-  read : Reads (m.binder ∷ []) (binders_value [] ∷ []) (m.binder ∷ []) (binders_value l.variables ∷ []) l.fn.level l.fn.pieces l.rest;
+  read : Reads (m.binder ∷ []) (binders_value [] ∷ []) (m.binder ∷ []) (binders_value l.variables.items ∷ []) l.fn.level l.fn.pieces l.rest;
   rest : length l.rest ≤ length l.fn.pieces;
 }
 

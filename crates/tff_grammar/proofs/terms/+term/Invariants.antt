@@ -14,7 +14,7 @@ decreases-terms l = 2 * length l.pieces.now + 1
 
 abbrev pub invariant-terms-loop-terms : goal.invariant-terms-loop-terms
 invariant-terms-loop-terms l = record {
-  read : Reads (m.term ∷ m.more_terms ∷ []) (head_value l.fn.head [] ∷ []) (m.term ∷ m.more_terms ∷ []) (head_value l.fn.head l.terms ∷ []) l.fn.level l.fn.pieces l.rest;
+  read : Reads (m.term ∷ m.more_terms ∷ []) (head_value l.fn.head [] ∷ []) (m.term ∷ m.more_terms ∷ []) (head_value l.fn.head l.terms.items ∷ []) l.fn.level l.fn.pieces l.rest;
   rest : length l.rest ≤ length l.fn.pieces;
 }
 
