@@ -1,5 +1,10 @@
-pub mod Closing
+pub mod Deciding
+pub mod AnswerLaws
 pub mod OneAnswer
+pub mod Ending
+pub mod Refusals
+pub mod Passing
+pub mod Judges
 pub mod StatusLemmas
 pub mod SectionLemmas
 pub mod RowLemmas

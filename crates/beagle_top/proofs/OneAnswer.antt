@@ -1,79 +1,122 @@
--- At most one status and one text are due.
-use Rattle.std.proofs.Common.{◌≡◌, ◌⊎◌, ◌<◌, ◌≤◌, ◌∙◌, ℕ, Bool, List, [], ◌∷◌, Option, Some, None, length, refl, sym, ap, subst, inl, inr, arith}
+-- At most one answer is due, up to what a judge says.
+use Rattle.std.proofs.Common.{◌≡◌, ◌∙◌, ℕ, Bool, true, List, [], ◌∷◌, length, refl, sym, ap, subst, inl, inr, arith}
 use Rattle.std.specs.Prelude.{is_some}
+use Rattle.std.proofs.lemmas.Bool.{false≢true}
+use Rattle.term_base.specs.declared.clauses.Clause.{Clause}
 use Rattle.command_line.specs.declared.options.Options.{Options}
+use Rattle.command_line.specs.declared.options.Mode.{Mode}
+use Rattle.command_line.specs.declared.options.Mode.TheVariants.{Prove, Check, Make}
 use Rattle.formula_base.specs.declared.problems.Problem.{Problem}
 use Rattle.tff_reader.specs.declared.refusals.Refused.{Refused}
 use Rattle.tff_reader.specs.Answer.{IsProblem, IsRefused}
-use Rattle.normal_form.specs.Clauses.{count_of}
-use Rattle.normal_form.specs.Count.{saturated}
-use Rattle.beagle_top.specs.declared.first_clauses.FirstClause.{FirstClause}
-use Rattle.beagle_top.specs.FirstClauses.{first_false}
-use Rattle.beagle_top.specs.Texts.{certificate_text, refutation, refused, saturated_list, steps_by, too_many}
-use Rattle.beagle_top.specs.Pools.{closing}
-use Rattle.beagle_top.specs.Sections.{problem_bytes}
-use Rattle.beagle_top.specs.Answer.{Decides, IsAnswer, IsAnswerOf, IsDueFor, answered, consistent, decided, fault, many, refuted, unbuilt}
+use Rattle.normal_form.specs.Clauses.{count_of, max_clauses}
+use Rattle.bg_view.specs.declared.viewing.WideAt.{WideAt}
+use Rattle.arithmetic_answers.specs.declared.deciding.Decision.{Decision}
+use Rattle.arithmetic_answers.specs.declared.deciding.Decision.TheVariants.{EmptyClause, TooWide}
+use Rattle.arithmetic_answers.specs.Decisions.{Decides, first_empty, first_wide, queries_of}
+use Rattle.arithmetic_answers.specs.Texts.{Tells, empty_clause_text, wide_line}
+use Rattle.beagle_top.specs.Sections.{before_answer}
+use Rattle.beagle_top.specs.Texts.{refused}
+use Rattle.beagle_top.specs.Answer.{IsCheck, IsDueFor, IsDueIn, IsProof, IsReading, Limited, Refuses, clauses_of, crowded, decided, fault, foreground, input_limit, many, read, status_of, unbuilt}
+use Rattle.beagle_top.specs.Meaning.{IsOneAnswer}
+use Rattle.beagle_top.proofs.Deciding.{HowDecided, by_clause, by_query, by_range, how, no_value, not_both, one_value, zero_or_one}
 
--- the same status and the same text
-abbrev Same : ℕ → ℕ → List ℕ → List ℕ → Type 0
-Same s t x y = (s ≡ t) × (x ≡ y)
+-- ---- refusals
+both_refused : (l m a b x y : List ℕ) (s t : ℕ) → Refuses l a s x → Refuses m b t y → l ≡ m → IsOneAnswer a b s t x y
+both_refused l m a b x y s t f g e = record {
+  queries = f.asked_is ∙ sym g.asked_is;
+  without = λ _. (f.status_is ∙ sym g.status_is, f.text_is ∙ (e ∙ sym g.text_is));
+  apart = λ zero one. let three = f.status_is in absurd (omega (arith, three, zero));
+}
 
-one_decision : (ordinary has_conjecture : Bool) (cs : List FirstClause) (s t : ℕ) (x y : List ℕ)
-    → Decides ordinary has_conjecture cs s x → Decides ordinary has_conjecture cs t y → Same s t x y
-one_decision ordinary has_conjecture cs s t x y (refuted k c first i a d) (refuted l e other j b f) =
-    let same : ◌≡◌ {A = Option (ℕ × FirstClause)} (Some (k, c)) (Some (l, e)) = sym first ∙ other in
-    let pair : ◌≡◌ {A = ℕ × FirstClause} (k, c) (l, e) = cc in
-    (a ∙ sym b, d ∙ ap (λ (p : ℕ × FirstClause). refutation ordinary has_conjecture (steps_by (certificate_text closing) p.0 p.1)) pair ∙ sym f)
-one_decision ordinary has_conjecture cs s t x y (refuted k c first i a d) (consistent none all b f) =
-    let bad : ◌≡◌ {A = Option (ℕ × FirstClause)} (Some (k, c)) None = sym first ∙ none in
-    cc
-one_decision ordinary has_conjecture cs s t x y (consistent none all b f) (refuted k c first i a d) =
-    let bad : ◌≡◌ {A = Option (ℕ × FirstClause)} (Some (k, c)) None = sym first ∙ none in
-    cc
-one_decision ordinary has_conjecture cs s t x y (consistent none all a d) (consistent also every b f) = (a ∙ sym b, d ∙ sym f)
+-- ---- decisions
+module _ (ordinary has_conjecture : Bool) (cs : List Clause) (limit : ℕ) (d e : Decision) (h : Decides cs limit d) (i : Decides cs limit e)
+    (a b x y : List ℕ) (s t : ℕ) (p : a ≡ queries_of d) (q : b ≡ queries_of e) (m : s ≡ status_of d) (n : t ≡ status_of e)
+    (f : Tells ordinary has_conjecture cs d x) (g : Tells ordinary has_conjecture cs e y) where
+  never_apart : s ≡ 0 → t ≡ 1 → ⊥
+  never_apart zero one = zero_or_one cs limit d e h i (sym zero ∙ m) (sym one ∙ n)
 
-same_firsts : (o : Option (List FirstClause)) (cs ds : List FirstClause) → o ≡ Some cs → o ≡ Some ds → cs ≡ ds
-same_firsts o cs ds e f =
-    let same : ◌≡◌ {A = Option (List FirstClause)} (Some cs) (Some ds) = sym e ∙ f in
-    cc
+  -- both are one decision without a query
+  same_decision : (c : Decision) → queries_of c ≡ [] → d ≡ c → e ≡ c → x ≡ y → IsOneAnswer a b s t x y
+  same_decision c none u v same = record {
+    queries = p ∙ (ap queries_of (u ∙ sym v) ∙ sym q);
+    without = λ _. (m ∙ (ap status_of (u ∙ sym v) ∙ sym n), same);
+    apart = never_apart;
+  }
 
-one_of_problem : (o : Options) (p : Problem) (s t : ℕ) (x y : List ℕ) → IsAnswerOf o p s x → IsAnswerOf o p t y → Same s t x y
-one_of_problem o p s t x y (many over a d) (many also b f) = (a ∙ sym b, d ∙ sym f)
-one_of_problem o p s t x y (many over a d) (unbuilt within why b f) = absurd (omega arith)
-one_of_problem o p s t x y (many over a d) (decided cs within mode is by) = absurd (omega arith)
-one_of_problem o p s t x y (unbuilt within why a d) (many over b f) = absurd (omega arith)
-one_of_problem o p s t x y (unbuilt within why a d) (unbuilt also how b f) = (a ∙ sym b, d ∙ sym f)
-one_of_problem o p s t x y (unbuilt within (inl other) a d) (decided cs also mode is by) = absurd (other mode)
-one_of_problem o p s t x y (unbuilt within (inr none) a d) (decided cs also mode is by) =
-    let bad : ◌≡◌ {A = Option (List FirstClause)} None (Some cs) = sym none ∙ is in
-    cc
-one_of_problem o p s t x y (decided cs within mode is by) (many over b f) = absurd (omega arith)
-one_of_problem o p s t x y (decided cs within mode is by) (unbuilt also (inl other) b f) = absurd (other mode)
-one_of_problem o p s t x y (decided cs within mode is by) (unbuilt also (inr none) b f) =
-    let bad : ◌≡◌ {A = Option (List FirstClause)} None (Some cs) = sym none ∙ is in
-    cc
-one_of_problem o p s t x y (decided cs within mode is by) (decided ds also too are how) =
-    let same = same_firsts _ ds cs are is in
-    one_decision o.ordinary (is_some p.conjecture) cs s t x y by (subst (λ (fs : List FirstClause). Decides o.ordinary (is_some p.conjecture) fs t y) same how)
+  -- both took a query
+  both_asked : queries_of d ≡ 0 ∷ [] → queries_of e ≡ 0 ∷ [] → IsOneAnswer a b s t x y
+  both_asked u v = record {
+    queries = p ∙ (u ∙ (sym v ∙ sym q));
+    without = λ none. let same : ◌≡◌ {A = List ℕ} [] (0 ∷ []) = sym none ∙ (p ∙ u) in cc;
+    apart = never_apart;
+  }
 
+  one_decision : HowDecided cs d → HowDecided cs e → IsOneAnswer a b s t x y
+  one_decision (by_clause k u v) (by_clause l w z) =
+      let same = one_value (first_empty 0 cs) l k w u in
+      let xs : x ≡ empty_clause_text ordinary has_conjecture k = subst (λ (c : Decision). Tells ordinary has_conjecture cs c x) v f in
+      let ys : y ≡ empty_clause_text ordinary has_conjecture l = subst (λ (c : Decision). Tells ordinary has_conjecture cs c y) z g in
+      same_decision (EmptyClause k) refl v (z ∙ ap (λ (n : ℕ). EmptyClause n) same) (xs ∙ (ap (empty_clause_text ordinary has_conjecture) (sym same) ∙ sym ys))
+  one_decision (by_clause k u v) (by_range at w z) = absurd (no_value (first_empty 0 cs) k u w.no_empty)
+  one_decision (by_clause k u v) (by_query pool z) = absurd (no_value (first_empty 0 cs) k u pool.no_empty)
+  one_decision (by_range at u v) (by_clause k w z) = absurd (no_value (first_empty 0 cs) k w u.no_empty)
+  one_decision (by_range at u v) (by_range there w z) =
+      let same = one_value (first_wide cs) there at w.wide u.wide in
+      let xs : x ≡ wide_line at.wide = subst (λ (c : Decision). Tells ordinary has_conjecture cs c x) v f in
+      let ys : y ≡ wide_line there.wide = subst (λ (c : Decision). Tells ordinary has_conjecture cs c y) z g in
+      same_decision (TooWide at) refl v (z ∙ ap (λ (a : WideAt). TooWide a) same) (xs ∙ (ap (λ (w : WideAt). wide_line w.wide) (sym same) ∙ sym ys))
+  one_decision (by_range at u v) (by_query pool z) = absurd (no_value (first_wide cs) at u.wide pool.narrow)
+  one_decision (by_query pool u) (by_clause k w z) = absurd (no_value (first_empty 0 cs) k w pool.no_empty)
+  one_decision (by_query pool u) (by_range at w z) = absurd (no_value (first_wide cs) at w.wide pool.narrow)
+  one_decision (by_query pool u) (by_query also v) = both_asked u v
+
+-- ---- problems
+one_proof : (o : Options) (p : Problem) (a b : List ℕ) (s t : ℕ) (x y : List ℕ) → IsProof o p a s x → IsProof o p b t y → IsOneAnswer a b s t x y
+one_proof o p a b s t x y (many over f) (many also g) = both_refused _ _ a b x y s t f g refl
+one_proof o p a b s t x y (many over f) (foreground few other g) = absurd (not_both max_clauses (count_of p) over few)
+one_proof o p a b s t x y (many over f) (decided d few all h q n g) = absurd (not_both max_clauses (count_of p) over few)
+one_proof o p a b s t x y (foreground few other f) (many over g) = absurd (not_both max_clauses (count_of p) over few)
+one_proof o p a b s t x y (foreground few other f) (foreground also too g) = both_refused _ _ a b x y s t f g refl
+one_proof o p a b s t x y (foreground few other f) (decided d also all h q n g) = absurd (false≢true (sym other ∙ all))
+one_proof o p a b s t x y (decided d few all h q n f) (many over g) = absurd (not_both max_clauses (count_of p) over few)
+one_proof o p a b s t x y (decided d few all h q n f) (foreground also other g) = absurd (false≢true (sym other ∙ all))
+one_proof o p a b s t x y (decided d few all h q n f) (decided e also too i r k g) =
+    let cs = clauses_of p o.ordinary in
+    one_decision o.ordinary (is_some p.conjecture) cs o.judge_steps d e h i a b x y s t q r n k f g (how cs o.judge_steps d h) (how cs o.judge_steps e i)
+
+one_check : (p : Problem) (a b : List ℕ) (s t : ℕ) (x y : List ℕ) → IsCheck p a s x → IsCheck p b t y → IsOneAnswer a b s t x y
+one_check p a b s t x y (crowded over f) (crowded also g) = both_refused _ _ a b x y s t f g refl
+one_check p a b s t x y (crowded over f) (unbuilt few g) = absurd (not_both max_clauses (count_of p) over few)
+one_check p a b s t x y (unbuilt few f) (crowded over g) = absurd (not_both max_clauses (count_of p) over few)
+one_check p a b s t x y (unbuilt few f) (unbuilt also g) = both_refused _ _ a b x y s t f g refl
+
+-- ---- bytes
 module _ (problem : (bytes : List ℕ) (p q : Problem) → IsProblem bytes p → IsProblem bytes q → p ≡ q)
     (refusal : (bytes : List ℕ) (r s : Refused) → IsRefused bytes r → IsRefused bytes s → r ≡ s)
     (apart : (bytes : List ℕ) (p : Problem) (r : Refused) → IsProblem bytes p → IsRefused bytes r → ⊥) where
-  one_answer : (o : Options) (bytes : List ℕ) (s t : ℕ) (x y : List ℕ) → IsAnswer o bytes s x → IsAnswer o bytes t y → Same s t x y
-  one_answer o bytes s t x y (fault r is a d) (fault q also b f) = (a ∙ sym b, d ∙ ap refused (refusal (problem_bytes o.mode bytes) r q is also) ∙ sym f)
-  one_answer o bytes s t x y (fault r is a d) (answered p also by) = absurd (apart (problem_bytes o.mode bytes) p r also is)
-  one_answer o bytes s t x y (answered p is by) (fault r also b f) = absurd (apart (problem_bytes o.mode bytes) p r is also)
-  one_answer o bytes s t x y (answered p is by) (answered q also how) =
-      one_of_problem o p s t x y by (subst (λ (z : Problem). IsAnswerOf o z t y) (problem (problem_bytes o.mode bytes) q p also is) how)
+  one_reading : (Due : Problem → List ℕ → ℕ → List ℕ → Type 0)
+      → ((p : Problem) (a b : List ℕ) (s t : ℕ) (x y : List ℕ) → Due p a s x → Due p b t y → IsOneAnswer a b s t x y)
+      → (bytes a b : List ℕ) (s t : ℕ) (x y : List ℕ) → IsReading Due bytes a s x → IsReading Due bytes b t y → IsOneAnswer a b s t x y
+  one_reading Due one bytes a b s t x y (fault r is f) (fault q also g) = both_refused _ _ a b x y s t f g (ap refused (refusal bytes r q is also))
+  one_reading Due one bytes a b s t x y (fault r is f) (read p also g) = absurd (apart bytes p r also is)
+  one_reading Due one bytes a b s t x y (read p is f) (fault r also g) = absurd (apart bytes p r is also)
+  one_reading Due one bytes a b s t x y (read p is f) (read q also g) =
+      one p a b s t x y f (subst (λ (z : Problem). Due z b t y) (problem bytes q p also is) g)
 
-  pub one_due : (o : Options) (bytes : List ℕ) (s t : ℕ) (x y : List ℕ) → IsDueFor o bytes s x → IsDueFor o bytes t y → Same s t x y
-  one_due o bytes s t x y (inl first) (inl second) = (first.1.status_is ∙ sym second.1.status_is, first.1.text_is ∙ sym second.1.text_is)
-  one_due o bytes s t x y (inl first) (inr second) =
-      let over = first.0 in
-      let within = second.0 in
-      absurd (omega arith)
-  one_due o bytes s t x y (inr first) (inl second) =
-      let within = first.0 in
-      let over = second.0 in
-      absurd (omega arith)
-  one_due o bytes s t x y (inr first) (inr second) = one_answer o bytes s t x y first.1 second.1
+  one_limited : (bytes : List ℕ) (Due : List ℕ → ℕ → List ℕ → Type 0) (a b : List ℕ) (s t : ℕ) (x y : List ℕ)
+      → (Due a s x → Due b t y → IsOneAnswer a b s t x y) → Limited bytes Due a s x → Limited bytes Due b t y → IsOneAnswer a b s t x y
+  one_limited bytes Due a b s t x y one (inl f) (inl g) = both_refused _ _ a b x y s t f.1 g.1 refl
+  one_limited bytes Due a b s t x y one (inl f) (inr g) = absurd (not_both input_limit (length bytes) f.0 g.0)
+  one_limited bytes Due a b s t x y one (inr f) (inl g) = absurd (not_both input_limit (length bytes) g.0 f.0)
+  one_limited bytes Due a b s t x y one (inr f) (inr g) = one f.1 g.1
+
+  one_in : (m : Mode) (o : Options) (bytes a b : List ℕ) (s t : ℕ) (x y : List ℕ) → IsDueIn m o bytes a s x → IsDueIn m o bytes b t y → IsOneAnswer a b s t x y
+  one_in Prove o bytes a b s t x y f g =
+      one_limited bytes (IsReading (IsProof o) bytes) a b s t x y (one_reading (IsProof o) (one_proof o) bytes a b s t x y) f g
+  one_in Check o bytes a b s t x y f g =
+      one_limited bytes (IsReading IsCheck (before_answer true bytes)) a b s t x y (one_reading IsCheck one_check (before_answer true bytes) a b s t x y) f g
+  one_in (Make number) o bytes a b s t x y f g = absurd f
+
+  pub one_due : (o : Options) (bytes a b : List ℕ) (s t : ℕ) (x y : List ℕ) → IsDueFor o bytes a s x → IsDueFor o bytes b t y → IsOneAnswer a b s t x y
+  one_due o bytes a b s t x y f g = one_in o.mode o bytes a b s t x y f g

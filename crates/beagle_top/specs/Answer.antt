@@ -1,59 +1,88 @@
--- Which status and which text are due, and how a run ends.
-use Rattle.std.specs.Prelude.{◌≡◌, ◌≢◌, ℕ, ◌<◌, ◌≤◌, Bool, true, false, List, [], ◌∷◌, length, take, is_some, All, Contains, Option, Some, None, ⊤, ◌⊎◌}
+-- Which status and which text are due, which queries they take, and how a run ends.
+use Rattle.std.specs.Prelude.{◌≡◌, ℕ, ◌<◌, ◌≤◌, ◌^◌, Bool, true, false, List, [], ◌∷◌, ◌++◌, length, take, is_some, Contains, Option, None, ◌⊎◌}
+use Rattle.std.specs.List.{list_all}
 use Rattle.std.specs.Io.KnownBytes.{Appends}
-use Rattle.lin_base.specs.Fact.{Impossible}
-use Rattle.cert_tree.specs.Stands.{Stands}
+use Rattle.term_base.specs.declared.clauses.Clause.{Clause}
+use Rattle.term_base.specs.declared.preparation.Prepared.{Prepared}
+use Rattle.term_base.specs.Lits.{lits}
+use Rattle.term_base.specs.Clauses.{is_background}
+use Rattle.cert_tree.specs.Measures.{bulk, span, depth}
+use Rattle.judge_base.specs.Verdicts.{max_depth}
 use Rattle.command_line.specs.declared.options.Options.{Options}
 use Rattle.command_line.specs.declared.options.Mode.{Mode}
-use Rattle.command_line.specs.declared.options.Mode.TheVariants.{Prove, Make}
+use Rattle.command_line.specs.declared.options.Mode.TheVariants.{Prove, Check, Make}
 use Rattle.tff_reader.specs.declared.refusals.Refused.{Refused}
 use Rattle.tff_reader.specs.Answer.{IsProblem, IsRefused}
 use Rattle.formula_base.specs.declared.problems.Problem.{Problem}
 use Rattle.normal_form.specs.Clauses.{count_of, max_clauses, prepared}
 use Rattle.normal_form.specs.Count.{saturated}
-use Rattle.beagle_top.specs.declared.first_clauses.FirstClause.{FirstClause}
-use Rattle.beagle_top.specs.declared.first_clauses.FirstClause.TheVariants.{Empty, AtMost}
-use Rattle.beagle_top.specs.FirstClauses.{IsTrueClause, first_clauses, first_false}
-use Rattle.beagle_top.specs.Sections.{problem_bytes}
-use Rattle.beagle_top.specs.Pools.{pool_of, closing}
-use Rattle.beagle_top.specs.Texts.{too_long, not_built, refused, too_many, certificate_text, steps_by, refutation, saturated_list}
+use Rattle.arithmetic_answers.specs.declared.deciding.Decision.{Decision}
+use Rattle.arithmetic_answers.specs.declared.deciding.Decision.TheVariants.{EmptyClause, TooWide, Refuted, Satisfied, Unknown}
+use Rattle.arithmetic_answers.specs.Decisions.{Decides, first_wide, pool_of, queries_of}
+use Rattle.arithmetic_answers.specs.Texts.{Tells}
+use Rattle.beagle_top.specs.Sections.{before_answer}
+use Rattle.beagle_top.specs.Texts.{too_long, not_built, refused, too_many}
 
 -- the most bytes that a problem may have
 abbrev pub input_limit : ℕ
 input_limit = 16777216
 
--- The certificate stands for the pool of a comparison, so no integers make it true; an empty clause needs none.
-abbrev pub IsImpossible : FirstClause → Type 0
-IsImpossible Empty = ⊤
-IsImpossible (AtMost left right) = Stands (pool_of left right) closing × Impossible (pool_of left right)
+-- ---- the clauses of a problem
+abbrev pub clauses_of : Problem → Bool → List Clause
+clauses_of p ordinary = (prepared p ordinary).clauses
 
--- the clauses of the problem, as first clauses where each is one
-abbrev pub firsts : Options → Problem → Option (List FirstClause)
-firsts o p = first_clauses (prepared p o.ordinary).clauses
+-- each of the clauses is a background clause over the symbols
+abbrev pub are_all_background : Prepared → Bool
+are_all_background p = list_all (λ c. is_background p.symbols (lits c)) p.clauses
 
--- What is due for first clauses: the refutation by the first one that is false, or else the list of them, all of them true.
-pub data Decides (ordinary has_conjecture : Bool) (cs : List FirstClause) (status : ℕ) (text : List ℕ) : Type 0 where
-  refuted : (k : ℕ) (c : FirstClause) → first_false 0 cs ≡ Some (k, c) → IsImpossible c → status ≡ 0
-      → text ≡ refutation ordinary has_conjecture (steps_by (certificate_text closing) k c) → Decides ordinary has_conjecture cs status text
-  consistent : first_false 0 cs ≡ None → All IsTrueClause cs → status ≡ 1 → text ≡ saturated_list ordinary cs → Decides ordinary has_conjecture cs status text
-
--- What is due for a problem: the refusal of too many clauses; else that of what isn't built; else what its clauses decide.
-pub data IsAnswerOf (o : Options) (p : Problem) (status : ℕ) (text : List ℕ) : Type 0 where
-  many : max_clauses < count_of p → status ≡ 3 → text ≡ too_many (saturated (count_of p)) → IsAnswerOf o p status text
-  unbuilt : count_of p ≤ max_clauses → (o.mode ≢ Prove) ⊎ (firsts o p ≡ None) → status ≡ 3 → text ≡ not_built → IsAnswerOf o p status text
-  decided : (cs : List FirstClause) → count_of p ≤ max_clauses → o.mode ≡ Prove → firsts o p ≡ Some cs
-      → Decides o.ordinary (is_some p.conjecture) cs status text → IsAnswerOf o p status text
-
--- What is due for bytes within the limit: the refusal of the first fault of the problem, or what is due for the problem
--- that they mean.
-pub data IsAnswer (o : Options) (bytes : List ℕ) (status : ℕ) (text : List ℕ) : Type 0 where
-  fault : (r : Refused) → IsRefused (problem_bytes o.mode bytes) r → status ≡ 3 → text ≡ refused r → IsAnswer o bytes status text
-  answered : (p : Problem) → IsProblem (problem_bytes o.mode bytes) p → IsAnswerOf o p status text → IsAnswer o bytes status text
-
--- the bytes are refused with this line
-pub record Refuses (line : List ℕ) (status : ℕ) (text : List ℕ) : Type 0 where
+-- ---- what is due for a problem
+-- the line of a refusal, with no query
+pub record Refuses (line : List ℕ) (asked : List ℕ) (status : ℕ) (text : List ℕ) : Type 0 where
+  pub asked_is : asked ≡ []
   pub status_is : status ≡ 3
   pub text_is : text ≡ line
+
+-- the status that goes with a decision
+abbrev pub status_of : Decision → ℕ
+status_of (EmptyClause k) = 0
+status_of (TooWide at) = 2
+status_of (Refuted cert) = 0
+status_of (Satisfied values) = 1
+status_of (Unknown why) = 2
+
+-- What is due where a problem is to be proved, and the numbers of the queries that it takes: the refusal of too many clauses; else
+-- that of a clause that isn't a background clause; else the text of what the clauses decide.
+pub data IsProof (o : Options) (p : Problem) (asked : List ℕ) (status : ℕ) (text : List ℕ) : Type 0 where
+  many : max_clauses < count_of p → Refuses (too_many (saturated (count_of p))) asked status text → IsProof o p asked status text
+  foreground : count_of p ≤ max_clauses → are_all_background (prepared p o.ordinary) ≡ false → Refuses not_built asked status text
+      → IsProof o p asked status text
+  decided : (d : Decision) → count_of p ≤ max_clauses → are_all_background (prepared p o.ordinary) ≡ true
+      → Decides (clauses_of p o.ordinary) o.judge_steps d → asked ≡ queries_of d → status ≡ status_of d
+      → Tells o.ordinary (is_some p.conjecture) (clauses_of p o.ordinary) d text → IsProof o p asked status text
+
+-- What is due where an answer to a problem is to be checked: the refusal of too many clauses; else that of what isn't built.
+pub data IsCheck (p : Problem) (asked : List ℕ) (status : ℕ) (text : List ℕ) : Type 0 where
+  crowded : max_clauses < count_of p → Refuses (too_many (saturated (count_of p))) asked status text → IsCheck p asked status text
+  unbuilt : count_of p ≤ max_clauses → Refuses not_built asked status text → IsCheck p asked status text
+
+-- ---- what is due for bytes
+-- what is due for the bytes of a problem: the refusal of the first fault, or what is due for the problem that they mean
+pub data IsReading (Due : Problem → List ℕ → ℕ → List ℕ → Type 0) (bytes : List ℕ) (asked : List ℕ) (status : ℕ) (text : List ℕ) : Type 0 where
+  fault : (r : Refused) → IsRefused bytes r → Refuses (refused r) asked status text → IsReading Due bytes asked status text
+  read : (p : Problem) → IsProblem bytes p → Due p asked status text → IsReading Due bytes asked status text
+
+-- what is due for bytes: the refusal of too many, or what is due for those within the limit
+abbrev pub Limited : List ℕ → (List ℕ → ℕ → List ℕ → Type 0) → List ℕ → ℕ → List ℕ → Type 0
+Limited bytes Due asked status text =
+    ((input_limit < length bytes) × Refuses too_long asked status text) ⊎ ((length bytes ≤ input_limit) × Due asked status text)
+
+-- what is due where the problem of the bytes is to be proved
+abbrev pub Proves : Options → List ℕ → List ℕ → ℕ → List ℕ → Type 0
+Proves o bytes = Limited bytes (IsReading (IsProof o) bytes)
+
+-- what is due where the answer behind a problem is to be checked
+abbrev pub Checks : List ℕ → List ℕ → ℕ → List ℕ → Type 0
+Checks bytes = Limited bytes (IsReading IsCheck (before_answer true bytes))
 
 -- the job is to make a problem, which reads nothing
 abbrev pub is_make : Mode → Bool
@@ -61,9 +90,32 @@ is_make (Make number) = true
 is_make mode = false
 
 -- what is due for the bytes of a source, where the job reads one
-abbrev pub IsDueFor : Options → List ℕ → ℕ → List ℕ → Type 0
-IsDueFor o bytes status text =
-    ((input_limit < length bytes) × Refuses too_long status text) ⊎ ((length bytes ≤ input_limit) × IsAnswer o bytes status text)
+abbrev pub IsDueIn : Mode → Options → List ℕ → List ℕ → ℕ → List ℕ → Type 0
+IsDueIn Prove o bytes = Proves o bytes
+IsDueIn Check o bytes = Checks bytes
+IsDueIn (Make number) o bytes = λ asked status text. ⊥
+
+-- what is due for the options' job
+abbrev pub IsDueFor : Options → List ℕ → List ℕ → ℕ → List ℕ → Type 0
+IsDueFor o = IsDueIn o.mode o
+
+-- ---- problems that are decided
+-- The bytes are a problem of background clauses whose pool is formed within the range, and the three measures of this pool are within
+-- their limits.
+pub record IsDecidable (o : Options) (bytes : List ℕ) : Type 0 where
+  pub within : length bytes ≤ input_limit
+  pub problem : Problem
+  pub read : IsProblem bytes problem
+  pub few : count_of problem ≤ max_clauses
+  pub background : are_all_background (prepared problem o.ordinary) ≡ true
+  pub narrow : first_wide (clauses_of problem o.ordinary) ≡ None
+  pub bulk_within : bulk (pool_of (clauses_of problem o.ordinary)) ≤ o.judge_steps
+  pub span_within : span (pool_of (clauses_of problem o.ordinary)) < 2 ^ 127
+  pub depth_within : depth (pool_of (clauses_of problem o.ordinary)) ≤ max_depth
+
+-- a derivation or a saturated list
+abbrev pub IsDecided : ℕ → Type 0
+IsDecided status = (status ≡ 0) ⊎ (status ≡ 1)
 
 -- ---- how a run ends
 -- the sink has taken all of the text, and the status is the due one
@@ -82,12 +134,14 @@ pub record CutOff (text : List ℕ) (before after : Option (List ℕ)) (ended : 
 abbrev pub Ends : ℕ → List ℕ → Option (List ℕ) → Option (List ℕ) → ℕ → Type 0
 Ends status text before after ended = TakenWhole status text before after ended ⊎ CutOff text before after ended
 
--- what is due for these bytes was written, as far as the sink took it
-pub record EndsFor (o : Options) (bytes : List ℕ) (before after : Option (List ℕ)) (ended : ℕ) : Type 0 where
+-- what is due was written, as far as the sink took it, and the queries that it takes were asked
+pub record EndsBy (Due : List ℕ → ℕ → List ℕ → Type 0) (before after : Option (List ℕ)) (numbers_before numbers_after : List ℕ) (ended : ℕ) : Type 0 where
+  pub asked : List ℕ
   pub status : ℕ
   pub text : List ℕ
-  pub due : IsDueFor o bytes status text
+  pub due : Due asked status text
   pub ends : Ends status text before after ended
+  pub grows : numbers_after ≡ numbers_before ++ asked
 
 -- a status without a text: the source failed, or memory ran out
 abbrev pub IsSilent : ℕ → Type 0
@@ -95,8 +149,8 @@ IsSilent ended = (ended ≡ 5) ⊎ (ended ≡ 7)
 
 -- the statuses that go with a text that is due for bytes
 abbrev pub IsDue : ℕ → Type 0
-IsDue status = (status ≡ 0) ⊎ ((status ≡ 1) ⊎ (status ≡ 3))
+IsDue status = (status ≡ 0) ⊎ ((status ≡ 1) ⊎ ((status ≡ 2) ⊎ (status ≡ 3)))
 
 -- the statuses of a run
 abbrev pub IsStatus : ℕ → Type 0
-IsStatus ended = Contains (0 ∷ 1 ∷ 3 ∷ 4 ∷ 5 ∷ 6 ∷ 7 ∷ []) ended
+IsStatus ended = Contains (0 ∷ 1 ∷ 2 ∷ 3 ∷ 4 ∷ 5 ∷ 6 ∷ 7 ∷ []) ended

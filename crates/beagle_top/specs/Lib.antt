@@ -1,6 +1,7 @@
-pub mod FirstClauses
 pub mod Sections
 pub mod Texts
-pub mod Pools
 pub mod Answer
+pub mod Answered
+pub mod Asking
+pub mod Meaning
 pub mod Rows

@@ -1,8 +1,6 @@
 -- The parts of the input of a check: a problem, and behind it what the program has written for it.
-use Rattle.std.specs.Prelude.{ℕ, nat_eq, Bool, true, ◌&&◌, ◌||◌, List, [], ◌∷◌, codes, if◌then◌else◌}
+use Rattle.std.specs.Prelude.{ℕ, nat_eq, Bool, ◌&&◌, ◌||◌, List, [], ◌∷◌, codes, if◌then◌else◌}
 use Rattle.std.specs.List.{starts_with}
-use Rattle.command_line.specs.declared.options.Mode.{Mode}
-use Rattle.command_line.specs.declared.options.Mode.TheVariants.{Check}
 
 -- the bytes begin as the first line of a derivation or of a saturated list does
 abbrev pub begins_answer : List ℕ → Bool
@@ -12,8 +10,3 @@ begins_answer bytes = starts_with nat_eq bytes (codes "% SZS status ") || starts
 abbrev pub before_answer : Bool → List ℕ → List ℕ
 before_answer begins_line [] = []
 before_answer begins_line (b ∷ bs) = if begins_line && begins_answer (b ∷ bs) then [] else b ∷ before_answer (nat_eq b 10) bs
-
--- the bytes of the problem: all of them, or in a check those before the answer
-abbrev pub problem_bytes : Mode → List ℕ → List ℕ
-problem_bytes Check bytes = before_answer true bytes
-problem_bytes mode bytes = bytes

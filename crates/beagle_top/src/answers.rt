@@ -1,104 +1,188 @@
 //! The answer to the bytes of a problem.
 
-ghost use Rattle.std.specs.Prelude.{◌≡◌, IfOk, string_bytes};
+ghost use Rattle.std.specs.Prelude.{◌≡◌, [], true, IfOk, IsTrue};
+ghost use Rattle.formula_base.specs.Typing.{IsWellTyped};
+ghost use Rattle.normal_form.specs.Clauses.{AreWellSorted};
+ghost use Rattle.bg_view.specs.Background.{are_background};
+ghost use Rattle.arithmetic_answers.specs.Decisions.{Decides, queries_of};
+ghost use Rattle.arithmetic_answers.specs.Texts.{Tells};
 ghost use Rattle.beagle_top.specs.Texts as text;
-ghost use Rattle.beagle_top.specs.Answer.{Decides, IsAnswer, IsAnswerOf, IsDue};
+ghost use Rattle.beagle_top.specs.Sections as section;
+ghost use Rattle.beagle_top.specs.Answer as spec;
+ghost use Rattle.beagle_top.specs.Answer.{IsCheck, IsDue, IsProof, IsReading};
+ghost use Rattle.beagle_top.specs.Answered.{IsAnswered, IsDecidedBy};
+ghost use Rattle.beagle_top.specs.Asking.{MayAsk};
 
-use crate::first_clauses::{FirstClause, first_clauses, first_false};
-use crate::sections::problem_bytes;
-use crate::statuses::{PROVED, REFUSED, SATURATED};
-use crate::texts::{NOT_BUILT, refused, refutation, saturated_list, too_many};
-use cert_tree::standing_is_impossible;
-use command_line::{Mode, Options};
+use crate::sections::before_answer;
+use crate::statuses::{GAVE_UP, PROVED, REFUSED, SATURATED};
+use crate::texts::{not_built, refused, too_many};
+use arithmetic_answers::{Decision, answer_text, decide};
+use command_line::Options;
 use formula_base::Problem;
-use normal_form::{ClausesError, clauses};
+use judge_base::Judge;
+use normal_form::{ClausesError, clauses, count};
 use std::alloc::{AllocError, Global};
-use tff_reader::{ReadError, read};
+use term_base::{Prepared, is_background};
+use tff_reader::{ReadError, Refused, read};
 
 /// A status and the text that goes with it.
 #[derive(Drop)]
 pub struct Answer {
     pub status: u8,
-    pub text: String,
+    pub text: Vec<u8>,
 }
 
-// The answer of a problem whose clauses are first clauses.
+/// The most clauses that a problem may have.
+const MAX_CLAUSES: u64 = 100_000;
+
+fn status_of(decision: &Decision) -> u8
+    ensures status { result ≡ spec.status_of decision.now }
+    ensures due { IsDue result }
+{
+    match decision {
+        Decision::EmptyClause(_) | Decision::Refuted(_) => PROVED,
+        Decision::Satisfied(_) => SATURATED,
+        Decision::TooWide(_) | Decision::Unknown(_) => GAVE_UP,
+    }
+}
+
+// Whether each of the clauses is a background clause.
+fn are_all_background(prepared: &Prepared) -> bool
+    requires { AreWellSorted prepared.now }
+    ensures exactly { result ≡ spec.are_all_background prepared.now }
+    ensures background { IsTrue result → IsTrue (are_background prepared.now.symbols prepared.now.clauses) }
+{
+    for clause in prepared.clauses.as_slice() {
+        if !is_background(prepared.symbols.as_slice(), clause) {
+            return false;
+        }
+    }
+    true
+}
+
+// The answer for clauses that are background clauses.
 fn decided(
     alloc: Global,
     options: &Options,
     has_conjecture: bool,
-    firsts: &[FirstClause],
+    prepared: &Prepared,
+    judge: &mut dyn Judge,
 ) -> Result<Answer, AllocError>
+    requires { IsTrue (are_background prepared.now.symbols prepared.now.clauses) }
     ensures status { IfOk result (λ a. IsDue a.status) }
-    ensures due { IfOk result
-        (λ a. Decides options.now.ordinary has_conjecture firsts.now a.status (string_bytes a.text)) }
+    ensures due { IfOk result (λ a. IsDecidedBy options.now has_conjecture prepared.now.clauses
+        (numbers judge.old) (numbers judge.new) a.status a.text.items) }
+    ensures asked { MayAsk (numbers judge.old) (numbers judge.new) }
 {
-    match first_false(firsts) {
-        Some((k, clause)) => {
-            standing_is_impossible();
-            Ok(Answer {
-                status: PROVED,
-                text: refutation(alloc, options.ordinary, has_conjecture, k, clause)?,
-            })
-        }
-        None => Ok(Answer {
-            status: SATURATED,
-            text: saturated_list(alloc, options.ordinary, firsts)?,
-        }),
-    }
-}
-
-fn not_built(alloc: Global) -> Result<Answer, AllocError>
-    ensures { IfOk result (λ a. (a.status ≡ 3) × (string_bytes a.text ≡ text.not_built)) }
-{
+    let clauses = prepared.clauses.as_slice();
+    let symbols = prepared.symbols.as_slice();
+    let decision = decide(alloc, symbols, clauses, judge, options.judge_steps)?;
+    let text = answer_text(alloc, options.ordinary, has_conjecture, clauses, &decision)?;
     Ok(Answer {
-        status: REFUSED,
-        text: String::from_str(alloc, NOT_BUILT)?,
+        status: status_of(&decision),
+        text,
     })
 }
 
-// The answer of a problem.
-fn answer_of(alloc: Global, options: &Options, problem: &Problem) -> Result<Answer, AllocError>
+fn unbuilt(alloc: Global) -> Result<Answer, AllocError>
+    ensures { IfOk result (λ a. (a.status ≡ 3) × (a.text.items ≡ text.not_built)) }
+{
+    Ok(Answer {
+        status: REFUSED,
+        text: not_built(alloc)?,
+    })
+}
+
+fn many(alloc: Global, count: u64) -> Result<Answer, AllocError>
+    ensures { IfOk result (λ a. (a.status ≡ 3) × (a.text.items ≡ text.too_many count)) }
+{
+    Ok(Answer {
+        status: REFUSED,
+        text: too_many(alloc, count)?,
+    })
+}
+
+fn faulty(alloc: Global, fault: &Refused) -> Result<Answer, AllocError>
+    ensures { IfOk result (λ a. (a.status ≡ 3) × (a.text.items ≡ text.refused fault.now)) }
+{
+    Ok(Answer {
+        status: REFUSED,
+        text: refused(alloc, fault)?,
+    })
+}
+
+// The answer where a problem is to be proved.
+fn proof_of(
+    alloc: Global,
+    options: &Options,
+    problem: &Problem,
+    judge: &mut dyn Judge,
+) -> Result<Answer, AllocError>
+    requires { IsWellTyped problem.now }
     ensures status { IfOk result (λ a. IsDue a.status) }
-    ensures due { IfOk result
-        (λ a. IsAnswerOf options.now problem.now a.status (string_bytes a.text)) }
+    ensures due { IfOk result (λ a. IsAnswered (IsProof options.now problem.now)
+        (numbers judge.old) (numbers judge.new) a.status a.text.items) }
+    ensures asked { MayAsk (numbers judge.old) (numbers judge.new) }
 {
     let prepared = match clauses(alloc, problem, options.ordinary) {
         Ok(prepared) => prepared,
-        Err(ClausesError::TooMany(many)) => {
-            return Ok(Answer {
-                status: REFUSED,
-                text: too_many(alloc, many.count)?,
-            });
-        }
+        Err(ClausesError::TooMany(too)) => return many(alloc, too.count),
         Err(ClausesError::Memory) => return Err(AllocError),
     };
-    if options.mode != Mode::Prove {
-        return not_built(alloc);
-    }
-    match first_clauses(alloc, prepared.clauses.as_slice())? {
-        Some(firsts) => decided(
+    if are_all_background(&prepared) {
+        decided(
             alloc,
             options,
             problem.conjecture.is_some(),
-            firsts.as_slice(),
-        ),
-        None => not_built(alloc),
+            &prepared,
+            judge,
+        )
+    } else {
+        unbuilt(alloc)
     }
 }
 
-/// The answer to the bytes of a problem.
-pub fn answer_to(alloc: Global, options: &Options, bytes: &[u8]) -> Result<Answer, AllocError>
+/// The answer to bytes whose problem is to be proved.
+pub fn proof(
+    alloc: Global,
+    options: &Options,
+    bytes: &[u8],
+    judge: &mut dyn Judge,
+) -> Result<Answer, AllocError>
     ensures status { IfOk result (λ a. IsDue a.status) }
-    ensures due { IfOk result
-        (λ a. IsAnswer options.now bytes.now a.status (string_bytes a.text)) }
+    ensures due { IfOk result (λ a. IsAnswered (IsReading (IsProof options.now) bytes.now)
+        (numbers judge.old) (numbers judge.new) a.status a.text.items) }
+    ensures asked { MayAsk (numbers judge.old) (numbers judge.new) }
 {
-    match read(alloc, problem_bytes(options.mode, bytes)) {
-        Ok(problem) => answer_of(alloc, options, &problem),
-        Err(ReadError::Refused(fault)) => Ok(Answer {
-            status: REFUSED,
-            text: refused(alloc, &fault)?,
-        }),
+    match read(alloc, bytes) {
+        Ok(problem) => proof_of(alloc, options, &problem, judge),
+        Err(ReadError::Refused(fault)) => faulty(alloc, &fault),
+        Err(ReadError::Memory) => Err(AllocError),
+    }
+}
+
+// The answer where the answer to a problem is to be checked.
+fn check_of(alloc: Global, problem: &Problem) -> Result<Answer, AllocError>
+    ensures status { IfOk result (λ a. IsDue a.status) }
+    ensures due { IfOk result (λ a. IsCheck problem.now [] a.status a.text.items) }
+{
+    let count = count(problem);
+    if count > MAX_CLAUSES {
+        many(alloc, count)
+    } else {
+        unbuilt(alloc)
+    }
+}
+
+/// The answer to bytes of which the answer behind a problem is to be checked.
+pub fn check(alloc: Global, bytes: &[u8]) -> Result<Answer, AllocError>
+    ensures status { IfOk result (λ a. IsDue a.status) }
+    ensures due { IfOk result (λ a. IsReading IsCheck (section.before_answer true bytes.now) []
+        a.status a.text.items) }
+{
+    match read(alloc, before_answer(bytes)) {
+        Ok(problem) => check_of(alloc, &problem),
+        Err(ReadError::Refused(fault)) => faulty(alloc, &fault),
         Err(ReadError::Memory) => Err(AllocError),
     }
 }

@@ -1,26 +1,64 @@
 //! What the definition of answers implies.
 
-ghost use Rattle.std.specs.Prelude.{◌≡◌, ℕ, List};
+ghost use Rattle.std.specs.Prelude.{◌≡◌, ℕ, [], ◌∷◌, List};
 ghost use Rattle.command_line.specs.declared.options.Options.{Options};
-ghost use Rattle.beagle_top.specs.Answer.{IsDueFor};
+ghost use Rattle.formula_base.specs.declared.problems.Problem.{Problem};
+ghost use Rattle.bg_view.specs.declared.viewing.WideAt.{WideAt};
+ghost use Rattle.arithmetic_answers.specs.Decisions.{HasWide};
+ghost use Rattle.beagle_top.specs.Answer.{IsDecidable, IsDecided, IsDueFor, Proves, clauses_of};
+ghost use Rattle.beagle_top.specs.Meaning.{IsArithmetic, IsContradictory, IsOneAnswer, IsPastMeasure, IsPastRange, IsTrueAtValues, IsWideLine};
 ghost use Rattle.beagle_top.specs.Rows as rows;
 
 use tff_reader::one_answer as one_reading;
 
-/// At most one status and one text are due for given options and bytes.
+/// For given options and bytes the queries are determined; where there is none, the status and the text are; and not both a derivation
+/// and a saturated list are due, whatever the judge answers.
 pub fn one_answer()
-    ensures { (o : Options) (bytes : List ℕ) (s t : ℕ) (x y : List ℕ)
-        → IsDueFor o bytes s x → IsDueFor o bytes t y → (s ≡ t) × (x ≡ y) }
+    ensures { (o : Options) (bytes asked also : List ℕ) (s t : ℕ) (x y : List ℕ)
+        → IsDueFor o bytes asked s x → IsDueFor o bytes also t y → IsOneAnswer asked also s t x y }
 {
     one_reading();
 }
 
-/// Rows of the definitions, worked out: the first of two comparisons that is false, and none; the least number that is
-/// too large for a side; and where an answer behind a problem is cut off.
+/// Where a derivation is due, the bytes are a problem whose clauses are all of arithmetic, and at no integers for their
+/// parameters are all of them true for all integers for their variables.
+pub fn refuted_is_contradictory()
+    ensures { (o : Options) (bytes asked text : List ℕ) → Proves o bytes asked 0 text → IsContradictory o bytes }
+{}
+
+/// Where a saturated list is due, the bytes are a problem whose clauses are all of arithmetic, and all of them are true at the
+/// values of the list, for all integers for their variables.
+pub fn saturated_is_true()
+    ensures { (o : Options) (bytes asked text : List ℕ) → Proves o bytes asked 1 text → IsTrueAtValues o bytes text }
+{}
+
+/// The line `wide` is due exactly where no clause is empty and a number leaves the range where the pool is formed; it names the first
+/// such operation, and no judge is asked.
+pub fn wide_where_no_pool()
+    ensures comes { (o : Options) (bytes asked : List ℕ) (status : ℕ) (text : List ℕ) (p : Problem) (at : WideAt)
+        → Proves o bytes asked status text → IsArithmetic o bytes p → HasWide (clauses_of p o.ordinary) at
+        → IsWideLine at asked status text }
+    ensures only { (o : Options) (bytes text : List ℕ) → Proves o bytes [] 2 text → IsPastRange o bytes text }
+{
+    one_reading();
+}
+
+/// A line `unknown` is due only where its measure of the pool is past its limit.
+pub fn unknown_where_past()
+    ensures { (o : Options) (bytes text : List ℕ) → Proves o bytes (0 ∷ []) 2 text → IsPastMeasure o bytes text }
+{}
+
+/// Where the pool of background clauses is formed within the range and its three measures are within their limits, a derivation or a
+/// saturated list is due, whatever judge is asked.
+pub fn decidable_is_decided()
+    ensures { (o : Options) (bytes asked : List ℕ) (status : ℕ) (text : List ℕ)
+        → IsDecidable o bytes → Proves o bytes asked status text → IsDecided status }
+{
+    one_reading();
+}
+
+/// Rows of the definitions, worked out: where an answer behind a problem is cut off.
 pub fn definitions_give_rows()
-    ensures second_is_false { rows.SecondIsFalse }
-    ensures none_is_false { rows.NoneIsFalse }
-    ensures too_large { rows.TooLarge }
     ensures cut_off { rows.CutOffAnswer }
     ensures no_cut_inside { rows.NoCutInside }
 {}

@@ -2,7 +2,6 @@
 #![tactic(auto)]
 
 mod answers;
-mod first_clauses;
 mod laws;
 mod sections;
 pub mod statuses;
@@ -12,6 +11,8 @@ mod texts;
 mod top;
 
 pub use command_line::{Mode, Options};
-pub use first_clauses::{FirstClause, FirstSide};
-pub use laws::{definitions_give_rows, one_answer};
-pub use top::{Ended, INPUT_LIMIT, beagle};
+pub use laws::{
+    decidable_is_decided, definitions_give_rows, one_answer, refuted_is_contradictory,
+    saturated_is_true, unknown_where_past, wide_where_no_pool,
+};
+pub use top::{Ended, INPUT_LIMIT, beagle, prove_alone};

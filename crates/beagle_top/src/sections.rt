@@ -3,8 +3,6 @@
 ghost use Rattle.std.specs.Prelude.{◌≡◌, true};
 ghost use Rattle.beagle_top.specs.Sections as spec;
 
-use command_line::Mode;
-
 // Whether the bytes begin as the first line of a derivation or of a saturated list does.
 fn begins_answer(bytes: &[u8]) -> bool
     ensures { result ≡ spec.begins_answer bytes.now }
@@ -12,8 +10,8 @@ fn begins_answer(bytes: &[u8]) -> bool
     bytes.starts_with(b"% SZS status ") || bytes.starts_with(b"% Saturated ")
 }
 
-// The bytes before the first line that begins so.
-fn before_answer(bytes: &[u8]) -> &[u8]
+/// The bytes of a problem, before the answer that stands behind it: those before the first line that begins so.
+pub fn before_answer(bytes: &[u8]) -> &[u8]
     ensures { result.now ≡ spec.before_answer true bytes.now }
 {
     let mut begins_line = true;
@@ -24,14 +22,4 @@ fn before_answer(bytes: &[u8]) -> &[u8]
         begins_line = bytes[place] == b'\n';
     }
     bytes
-}
-
-/// The bytes of the problem: all of them, or in a check those before the answer that stands behind it.
-pub fn problem_bytes(mode: Mode, bytes: &[u8]) -> &[u8]
-    ensures { result.now ≡ spec.problem_bytes mode bytes.now }
-{
-    match mode {
-        Mode::Check => before_answer(bytes),
-        Mode::Prove | Mode::Make(_) => bytes,
-    }
 }

@@ -4,6 +4,8 @@
 pub const PROVED: u8 = 0;
 /// A saturated list was written.
 pub const SATURATED: u8 = 1;
+/// The problem was given up.
+pub const GAVE_UP: u8 = 2;
 /// The input was refused.
 pub const REFUSED: u8 = 3;
 /// The words on the command line were refused.

@@ -1,25 +1,31 @@
 //! The top call.
 
-ghost use Rattle.std.specs.Prelude.{◌≡◌, ◌≢◌, ◌⊎◌, ◌≤◌, [], length, map, string_bytes, false, true, IfSome, Some, None};
+ghost use Rattle.std.specs.Prelude.{◌≡◌, ◌≢◌, ◌⊎◌, ◌<◌, ◌≤◌, [], drop, length, map, string_bytes, false, true, IfSome, Some, None};
 ghost use Rattle.byte_ends.specs.Faults.{Rose};
 ghost use Rattle.command_line.specs.Command.{is_usage, options_of};
-ghost use Rattle.beagle_top.specs.Answer.{Ends, EndsFor, IsSilent, IsStatus, input_limit, is_make};
+ghost use Rattle.command_line.specs.declared.options.Mode.TheVariants.{Prove};
+ghost use Rattle.beagle_top.specs.Answer.{Checks, Ends, EndsBy, IsDecidable, IsDecided, IsDueFor, IsSilent, IsStatus, Proves, input_limit, is_make};
+ghost use Rattle.beagle_top.specs.Asking.{MayAsk, MayAskFirst, first_of};
 ghost use Rattle.beagle_top.specs.Texts.{not_built, usage};
 
-use crate::answers::answer_to;
+use crate::answers::{check, proof};
+use crate::laws::decidable_is_decided;
 use crate::statuses::{MEMORY, READ_FAULT, REFUSED, USAGE, WRITE_FAULT};
 use crate::texts::{NOT_BUILT, TOO_LONG, USAGE_LINE};
 use byte_ends::{ReadEnd, Sink, Source, put_all, read_all};
 use command_line::{Mode, Options, WordsFault, options_of};
+use judge_base::Judge;
 use std::alloc::Global;
 
 /// How a run ended.
-#[derive(Clone, Copy, Debug, PartialEq, Eq)]
+#[derive(Drop)]
 pub struct Ended {
     /// The exit status.
     pub status: u8,
     /// The options that the words gave. None where they were refused, or where memory ran out while they were read.
     pub options: Option<Options>,
+    /// The judges that the run was given as a list, in their order.
+    pub judges: Vec<Box<dyn Judge + Send>>,
 }
 
 /// The most bytes that are read.
@@ -37,35 +43,65 @@ fn written<K: Sink>(sink: &mut K, status: u8, text: &[u8]) -> u8
     }
 }
 
-// Answers the bytes of a problem.
-fn answered<K: Sink>(alloc: Global, options: &Options, bytes: &[u8], sink: &mut K) -> u8
+// Answers bytes whose problem is to be proved.
+fn proved_bytes<K: Sink>(
+    alloc: Global,
+    options: &Options,
+    bytes: &[u8],
+    sink: &mut K,
+    judge: &mut dyn Judge,
+) -> u8
     requires { length bytes.now ≤ input_limit }
     ensures status { IsStatus result }
-    ensures ends { result ≢ 7
-        → EndsFor options.now bytes.now (K.holds sink.old) (K.holds sink.new) result }
+    ensures ends { result ≢ 7 → EndsBy (Proves options.now bytes.now)
+        (K.holds sink.old) (K.holds sink.new) (numbers judge.old) (numbers judge.new) result }
+    ensures asked { MayAsk (numbers judge.old) (numbers judge.new) }
+    ensures refused { result ≡ 3 → numbers judge.new ≡ numbers judge.old }
     ensures memory { result ≡ 7 → sink.new ≡ sink.old }
     ensures no_usage { result ≢ 4 }
     ensures no_read_fault { result ≢ 5 }
     ensures write_fault { result ≡ 6 → Rose (K.faults sink.old) (K.faults sink.new) }
     ensures faults { K.faults sink.old ≤ K.faults sink.new }
 {
-    match answer_to(alloc, options, bytes) {
-        Ok(answer) => written(sink, answer.status, answer.text.as_bytes()),
+    match proof(alloc, options, bytes, judge) {
+        Ok(answer) => written(sink, answer.status, answer.text.as_slice()),
         Err(_) => MEMORY,
     }
 }
 
-// Reads a problem from the source and writes the answer to the sink.
-fn read_and_answered<S: Source, K: Sink>(
+// Answers bytes of which the answer behind a problem is to be checked.
+fn checked_bytes<K: Sink>(alloc: Global, bytes: &[u8], sink: &mut K) -> u8
+    requires { length bytes.now ≤ input_limit }
+    ensures status { IsStatus result }
+    ensures ends { result ≢ 7 → EndsBy (Checks bytes.now)
+        (K.holds sink.old) (K.holds sink.new) [] [] result }
+    ensures memory { result ≡ 7 → sink.new ≡ sink.old }
+    ensures no_usage { result ≢ 4 }
+    ensures no_read_fault { result ≢ 5 }
+    ensures write_fault { result ≡ 6 → Rose (K.faults sink.old) (K.faults sink.new) }
+    ensures faults { K.faults sink.old ≤ K.faults sink.new }
+{
+    match check(alloc, bytes) {
+        Ok(answer) => written(sink, answer.status, answer.text.as_slice()),
+        Err(_) => MEMORY,
+    }
+}
+
+// Reads a problem from the source, and writes the answer to it to the sink.
+fn proved<S: Source, K: Sink>(
     alloc: Global,
     options: &Options,
     source: &mut S,
     sink: &mut K,
+    judge: &mut dyn Judge,
 ) -> u8
     ensures status { IsStatus result }
     ensures no_usage { result ≢ 4 }
     ensures answer { (IsSilent result → ⊥) → IfSome (S.left source.old)
-        (λ bytes. EndsFor options.now bytes (K.holds sink.old) (K.holds sink.new) result) }
+        (λ bytes. EndsBy (Proves options.now bytes) (K.holds sink.old) (K.holds sink.new)
+        (numbers judge.old) (numbers judge.new) result) }
+    ensures asked { MayAsk (numbers judge.old) (numbers judge.new) }
+    ensures refused { (result ≡ 3) ⊎ (result ≡ 5) → numbers judge.new ≡ numbers judge.old }
     ensures read_fault { result ≡ 5 → Rose (S.faults source.old) (S.faults source.new) }
     ensures write_fault { result ≡ 6 → Rose (K.faults sink.old) (K.faults sink.new) }
     ensures silent { IsSilent result → sink.new ≡ sink.old }
@@ -73,15 +109,150 @@ fn read_and_answered<S: Source, K: Sink>(
     ensures sink_faults { K.faults sink.old ≤ K.faults sink.new }
 {
     match read_all(alloc, source, INPUT_LIMIT) {
-        Ok(bytes) => answered(alloc, options, &bytes, sink),
+        Ok(bytes) => proved_bytes(alloc, options, &bytes, sink, judge),
         Err(ReadEnd::TooLong) => written(sink, REFUSED, TOO_LONG.as_bytes()),
         Err(ReadEnd::Failed) => READ_FAULT,
         Err(ReadEnd::Memory) => MEMORY,
     }
 }
 
+// Reads a problem and the answer behind it from the source, and writes the answer of the check to the sink.
+fn checked<S: Source, K: Sink>(alloc: Global, source: &mut S, sink: &mut K) -> u8
+    ensures status { IsStatus result }
+    ensures no_usage { result ≢ 4 }
+    ensures answer { (IsSilent result → ⊥) → IfSome (S.left source.old)
+        (λ bytes. EndsBy (Checks bytes) (K.holds sink.old) (K.holds sink.new) [] [] result) }
+    ensures read_fault { result ≡ 5 → Rose (S.faults source.old) (S.faults source.new) }
+    ensures write_fault { result ≡ 6 → Rose (K.faults sink.old) (K.faults sink.new) }
+    ensures silent { IsSilent result → sink.new ≡ sink.old }
+    ensures source_faults { S.faults source.old ≤ S.faults source.new }
+    ensures sink_faults { K.faults sink.old ≤ K.faults sink.new }
+{
+    match read_all(alloc, source, INPUT_LIMIT) {
+        Ok(bytes) => checked_bytes(alloc, &bytes, sink),
+        Err(ReadEnd::TooLong) => written(sink, REFUSED, TOO_LONG.as_bytes()),
+        Err(ReadEnd::Failed) => READ_FAULT,
+        Err(ReadEnd::Memory) => MEMORY,
+    }
+}
+
+/// Reads a problem from the source, proves it with one judge and writes the answer to the sink, whatever mode and number of workers
+/// the options have. It asks the judge at most once. The options of the end are those that are given, and it has no judges.
+///
+/// What is written is the refusal of an input of more than `INPUT_LIMIT` bytes; else that of the first fault of the problem; else
+/// that of more than 100,000 clauses; else that of what isn't built: a clause that isn't a background clause; else the derivation
+/// of the first clause that is empty; else the line of the first operation that leaves the range where the pool of the clauses
+/// is formed; else what the judge says of this pool, with Bulk up to `judge_steps`: the derivation that closes all clauses by a
+/// certificate that stands, the list of all clauses with values at which they are true, or the line of the measure that is past its
+/// limit.
+///
+/// The status is `PROVED`, `SATURATED`, `GAVE_UP` or `REFUSED` where the sink took the whole text; `READ_FAULT` where the source
+/// failed and `MEMORY` where memory ran out, with nothing written; and `WRITE_FAULT` where the sink failed, with a prefix of
+/// the text written.
+pub fn prove_alone<S: Source, K: Sink>(
+    alloc: Global,
+    options: &Options,
+    source: &mut S,
+    sink: &mut K,
+    judge: &mut dyn Judge,
+) -> Ended
+    ensures status { IsStatus result.status }
+    ensures no_usage { result.status ≢ 4 }
+    ensures options { result.options ≡ Some options.now }
+    ensures judges { result.judges.items ≡ [] }
+
+    // What is due for the source's bytes is written, and the queries that it takes are asked.
+    ensures answer { (IsSilent result.status → ⊥) → IfSome (S.left source.old)
+        (λ bytes. EndsBy (Proves options.now bytes) (K.holds sink.old) (K.holds sink.new)
+        ((⟦<dyn Judge as Judge>⟧ judge.old.0).numbers judge.old.1)
+        ((⟦<dyn Judge as Judge>⟧ judge.new.0).numbers judge.new.1) result.status) }
+
+    // Background clauses whose pool has its measures within their limits are decided, whatever the judge.
+    ensures decided { (IsSilent result.status → ⊥) → result.status ≢ 6 → IfSome (S.left source.old)
+        (λ bytes. IsDecidable options.now bytes → IsDecided result.status) }
+
+    // In every case the judge is asked at most once, with the query of number 0, and not after a refusal or a fault of the source.
+    ensures asked { MayAsk ((⟦<dyn Judge as Judge>⟧ judge.old.0).numbers judge.old.1)
+        ((⟦<dyn Judge as Judge>⟧ judge.new.0).numbers judge.new.1) }
+    ensures refused { (result.status ≡ 3) ⊎ (result.status ≡ 5)
+        → (⟦<dyn Judge as Judge>⟧ judge.new.0).numbers judge.new.1
+        ≡ (⟦<dyn Judge as Judge>⟧ judge.old.0).numbers judge.old.1 }
+
+    // The faults of the ends, and want of memory.
+    ensures read_fault { result.status ≡ 5 → Rose (S.faults source.old) (S.faults source.new) }
+    ensures write_fault { result.status ≡ 6 → Rose (K.faults sink.old) (K.faults sink.new) }
+    ensures silent { IsSilent result.status → sink.new ≡ sink.old }
+    ensures source_faults { S.faults source.old ≤ S.faults source.new }
+    ensures sink_faults { K.faults sink.old ≤ K.faults sink.new }
+{
+    decidable_is_decided();
+    Ended {
+        status: proved(alloc, options, source, sink, judge),
+        options: Some(*options),
+        judges: Vec::new(alloc),
+    }
+}
+
+// Proves with a judge in its box.
+fn proved_by<S: Source, K: Sink>(
+    alloc: Global,
+    options: &Options,
+    source: &mut S,
+    sink: &mut K,
+    judge: &mut Box<dyn Judge + Send>,
+) -> u8
+    ensures status { IsStatus result }
+    ensures no_usage { result ≢ 4 }
+    ensures answer { (IsSilent result → ⊥) → IfSome (S.left source.old)
+        (λ bytes. EndsBy (Proves options.now bytes) (K.holds sink.old) (K.holds sink.new)
+        (numbers judge.old) (numbers judge.new) result) }
+    ensures asked { MayAsk (numbers judge.old) (numbers judge.new) }
+    ensures refused { (result ≡ 3) ⊎ (result ≡ 5) → numbers judge.new ≡ numbers judge.old }
+    ensures read_fault { result ≡ 5 → Rose (S.faults source.old) (S.faults source.new) }
+    ensures write_fault { result ≡ 6 → Rose (K.faults sink.old) (K.faults sink.new) }
+    ensures silent { IsSilent result → sink.new ≡ sink.old }
+    ensures source_faults { S.faults source.old ≤ S.faults source.new }
+    ensures sink_faults { K.faults sink.old ≤ K.faults sink.new }
+{
+    proved(alloc, options, source, sink, &mut **judge)
+}
+
+// Proves with the first of the judges.
+fn proved_by_first<S: Source, K: Sink>(
+    alloc: Global,
+    options: &Options,
+    source: &mut S,
+    sink: &mut K,
+    judges: &mut Vec<Box<dyn Judge + Send>>,
+) -> u8
+    requires { 0 < length judges.old.items }
+    ensures status { IsStatus result }
+    ensures no_usage { result ≢ 4 }
+    ensures answer { (IsSilent result → ⊥) → IfSome (S.left source.old)
+        (λ bytes. EndsBy (Proves options.now bytes) (K.holds sink.old) (K.holds sink.new)
+        (first_of (map (λ j. numbers j) judges.old.items)) (first_of (map (λ j. numbers j) judges.new.items)) result) }
+    ensures asked { MayAskFirst (map (λ j. numbers j) judges.old.items) (map (λ j. numbers j) judges.new.items) }
+    ensures refused { (result ≡ 3) ⊎ (result ≡ 5)
+        → map (λ j. numbers j) judges.new.items ≡ map (λ j. numbers j) judges.old.items }
+    ensures others { drop 1 judges.new.items ≡ drop 1 judges.old.items }
+    ensures read_fault { result ≡ 5 → Rose (S.faults source.old) (S.faults source.new) }
+    ensures write_fault { result ≡ 6 → Rose (K.faults sink.old) (K.faults sink.new) }
+    ensures silent { IsSilent result → sink.new ≡ sink.old }
+    ensures source_faults { S.faults source.old ≤ S.faults source.new }
+    ensures sink_faults { K.faults sink.old ≤ K.faults sink.new }
+{
+    proved_by(alloc, options, source, sink, &mut judges[0])
+}
+
 // Carries out the job; making a problem isn't built, and reads nothing.
-fn run<S: Source, K: Sink>(alloc: Global, options: &Options, source: &mut S, sink: &mut K) -> u8
+fn run<S: Source, K: Sink>(
+    alloc: Global,
+    options: &Options,
+    source: &mut S,
+    sink: &mut K,
+    judges: &mut Vec<Box<dyn Judge + Send>>,
+) -> u8
+    requires { 0 < length judges.old.items }
     ensures status { IsStatus result }
     ensures no_usage { result ≢ 4 }
     ensures made { is_make options.now.mode ≡ true
@@ -89,7 +260,13 @@ fn run<S: Source, K: Sink>(alloc: Global, options: &Options, source: &mut S, sin
     ensures unread { is_make options.now.mode ≡ true → source.new ≡ source.old }
     ensures answer { is_make options.now.mode ≡ false → (IsSilent result → ⊥)
         → IfSome (S.left source.old)
-        (λ bytes. EndsFor options.now bytes (K.holds sink.old) (K.holds sink.new) result) }
+        (λ bytes. EndsBy (IsDueFor options.now bytes) (K.holds sink.old) (K.holds sink.new)
+        (first_of (map (λ j. numbers j) judges.old.items)) (first_of (map (λ j. numbers j) judges.new.items)) result) }
+    ensures unasked { options.now.mode ≢ Prove → judges.new ≡ judges.old }
+    ensures asked { MayAskFirst (map (λ j. numbers j) judges.old.items) (map (λ j. numbers j) judges.new.items) }
+    ensures refused { (result ≡ 3) ⊎ (result ≡ 5)
+        → map (λ j. numbers j) judges.new.items ≡ map (λ j. numbers j) judges.old.items }
+    ensures others { drop 1 judges.new.items ≡ drop 1 judges.old.items }
     ensures read_fault { result ≡ 5 → Rose (S.faults source.old) (S.faults source.new) }
     ensures write_fault { result ≡ 6 → Rose (K.faults sink.old) (K.faults sink.new) }
     ensures silent { IsSilent result → sink.new ≡ sink.old }
@@ -98,28 +275,29 @@ fn run<S: Source, K: Sink>(alloc: Global, options: &Options, source: &mut S, sin
 {
     match options.mode {
         Mode::Make(_) => written(sink, REFUSED, NOT_BUILT.as_bytes()),
-        Mode::Prove | Mode::Check => read_and_answered(alloc, options, source, sink),
+        Mode::Check => checked(alloc, source, sink),
+        Mode::Prove => proved_by_first(alloc, options, source, sink, judges),
     }
 }
 
-/// Reads a problem from the source and writes the answer to the sink.
+/// Reads a problem from the source and writes the answer to the sink, with the judges that are given.
 ///
 /// The words are those of the command line without the program's name. Words that are refused are wrong usage, and the
 /// source isn't read; neither is it where a problem is to be made, which isn't built. Otherwise the source is read to its
-/// end, and what is written is the refusal of an input of more than `INPUT_LIMIT` bytes; else that of the first fault of the
-/// problem, which in a check ends before the first line of an answer; else that of more than 100,000 clauses; else that of
-/// what isn't built: a check, or a clause that isn't a first clause; else the refutation by the first clause that is false;
-/// else the list of all clauses.
+/// end. Where a problem is to be proved, what is written is that of `prove_alone` with the first judge. In a check it is the
+/// refusal of an input of more than `INPUT_LIMIT` bytes; else that of the first fault of the problem, which ends before the first line
+/// of an answer; else that of more than 100,000 clauses; else that of what isn't built.
 ///
-/// The status is `PROVED`, `SATURATED`, `REFUSED` or `USAGE` where the sink took the whole text; `READ_FAULT` where the source
-/// failed and `MEMORY` where memory ran out, with nothing written; and `WRITE_FAULT` where the sink failed, with a
-/// prefix of the text written.
+/// The status is that of `prove_alone`, or `USAGE`. The judges are handed back in their order. The first one is asked at most once,
+/// and the others never.
 pub fn beagle<S: Source, K: Sink>(
     alloc: Global,
     words: &[String],
     source: &mut S,
     sink: &mut K,
+    judges: Vec<Box<dyn Judge + Send>>,
 ) -> Ended
+    requires { 0 < length judges.items }
     ensures status { IsStatus result.status }
 
     // Refused words are wrong usage, whatever the source has, and the source isn't read. Want of memory may come first.
@@ -142,12 +320,29 @@ pub fn beagle<S: Source, K: Sink>(
     ensures unread_make { is_make (options_of (map string_bytes words.now)).mode ≡ true
         → source.new ≡ source.old }
 
-    // Otherwise what is due for the options and for the source's bytes is written.
+    // Otherwise what is due for the options and for the source's bytes is written, and the queries that it takes are asked.
     ensures answer { is_usage (map string_bytes words.now) ≡ false
         → is_make (options_of (map string_bytes words.now)).mode ≡ false
         → (IsSilent result.status → ⊥) → IfSome (S.left source.old)
-        (λ bytes. EndsFor (options_of (map string_bytes words.now)) bytes
-        (K.holds sink.old) (K.holds sink.new) result.status) }
+        (λ bytes. EndsBy (IsDueFor (options_of (map string_bytes words.now)) bytes)
+        (K.holds sink.old) (K.holds sink.new)
+        (first_of (map (λ j. numbers j) judges.items)) (first_of (map (λ j. numbers j) result.judges.items)) result.status) }
+
+    // Background clauses whose pool has its measures within their limits are decided, whatever the judges.
+    ensures decided { is_usage (map string_bytes words.now) ≡ false
+        → (options_of (map string_bytes words.now)).mode ≡ Prove
+        → (IsSilent result.status → ⊥) → result.status ≢ 6 → IfSome (S.left source.old)
+        (λ bytes. IsDecidable (options_of (map string_bytes words.now)) bytes → IsDecided result.status) }
+
+    // The judges come back in their order. The first is asked at most once, the others never, and none after a refusal or a fault of
+    // the source, where there are no options, or where nothing is to be proved.
+    ensures asked { MayAskFirst (map (λ j. numbers j) judges.items) (map (λ j. numbers j) result.judges.items) }
+    ensures refused { (result.status ≡ 3) ⊎ (result.status ≡ 5)
+        → map (λ j. numbers j) result.judges.items ≡ map (λ j. numbers j) judges.items }
+    ensures unasked_without_options { result.options ≡ None → result.judges ≡ judges }
+    ensures others { drop 1 result.judges.items ≡ drop 1 judges.items }
+    ensures unasked { (is_usage (map string_bytes words.now) ≡ true)
+        ⊎ ((options_of (map string_bytes words.now)).mode ≢ Prove) → result.judges ≡ judges }
 
     // The faults of the ends, and want of memory.
     ensures read_fault { result.status ≡ 5 → Rose (S.faults source.old) (S.faults source.new) }
@@ -156,18 +351,23 @@ pub fn beagle<S: Source, K: Sink>(
     ensures source_faults { S.faults source.old ≤ S.faults source.new }
     ensures sink_faults { K.faults sink.old ≤ K.faults sink.new }
 {
+    decidable_is_decided();
+    let mut judges = judges;
     match options_of(alloc, words) {
         Ok(options) => Ended {
-            status: run(alloc, &options, source, sink),
+            status: run(alloc, &options, source, sink, &mut judges),
             options: Some(options),
+            judges,
         },
         Err(WordsFault::Usage) => Ended {
             status: written(sink, USAGE, USAGE_LINE.as_bytes()),
             options: None,
+            judges,
         },
         Err(WordsFault::Memory) => Ended {
             status: MEMORY,
             options: None,
+            judges,
         },
     }
 }

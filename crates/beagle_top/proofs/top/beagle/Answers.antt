@@ -1,5 +1,20 @@
+use Rattle.std.proofs.Common.{◌≡◌, ◌∙◌, ap, false, refl, subst, sym}
+use Rattle.std.proofs.lemmas.Option.{IfSome_then}
+use Rattle.command_line.specs.declared.options.Mode.{Mode}
+use Rattle.command_line.specs.declared.options.Mode.TheVariants.{Prove}
+use Rattle.command_line.specs.declared.options.Options.{Options}
+use Rattle.beagle_top.specs.Answer.{IsDecidable, is_make}
+use Rattle.beagle_top.proofs.Ending.{decided_due}
 use Rattle.beagle_top.proofs.StatusLemmas.{by_usage}
 use Rattle.beagle_top.proofs.top.beagle.Goals as goal
 
 pub returns-in-Err-Usage-clause-status : goal.returns-in-Err-Usage-clause-status
 returns-in-Err-Usage-clause-status w c = by_usage c.written.result _ c.written.ensures.fault
+
+pub returns-in-Ok-clause-decided : goal.returns-in-Ok-clause-decided
+returns-in-Ok-clause-decided w c = λ good prove loud other.
+    let is = c.in-Ok.ensures.given in
+    let mode : c.in-Ok.options.mode ≡ Prove = ap (λ (o : Options). o.mode) is ∙ prove in
+    let reads : is_make c.in-Ok.options.mode ≡ false = subst (λ (m : Mode). is_make m ≡ false) (sym mode) refl in
+    IfSome_then (w.S.Source.left c.args.source.now) (c.run.ensures.answer reads loud)
+    (λ bytes e i. decided_due c.decidable_is_decided.ensures c.in-Ok.options bytes _ _ _ _ c.run.result mode other e (subst (λ (o : Options). IsDecidable o bytes) (sym is) i))

@@ -1,0 +1,8 @@
+use Rattle.std.proofs.lemmas.Option.{IfSome_then}
+use Rattle.beagle_top.proofs.Ending.{decided_so}
+use Rattle.beagle_top.proofs.top.prove_alone.Goals as goal
+
+pub returns-clause-decided : goal.returns-clause-decided
+returns-clause-decided w c = λ loud other.
+    IfSome_then (w.S.Source.left c.args.source.now) (c.proved.ensures.answer loud)
+    (λ bytes e i. decided_so c.decidable_is_decided.ensures c.args.options.now bytes _ _ _ _ c.proved.result other e i)

@@ -1,1 +1,0 @@
-tff(low,axiom,$less(1,2)).

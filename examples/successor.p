@@ -1,1 +1,0 @@
-tff(c,conjecture,$less(41,42)).
