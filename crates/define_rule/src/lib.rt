@@ -1,0 +1,12 @@
+//! The Define rule: the next term of a clause for which a parameter is introduced.
+#![tactic(auto)]
+
+mod definitions;
+mod filling;
+mod next;
+mod pins;
+mod scanning;
+#[cfg(test)]
+mod tests;
+
+pub use next::next_term;
