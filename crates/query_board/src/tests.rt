@@ -31,3 +31,39 @@ fn marks(rt: HostRuntime) -> Result<(), Fail> {
     assert!(rt; board.get(2).is_none() && board.get(1).is_some());
     Ok(())
 }
+
+#[test]
+fn a_verdict_acts(rt: HostRuntime) -> Result<(), Fail> {
+    let alloc = rt.alloc();
+    let mut board = Board::new(alloc);
+    let query = board.post(Asked::Close(Items::new(alloc)))?;
+    assert!(rt; board.set(query, Mark::Claimed) && board.set(query, Mark::Taken));
+    assert_eq!(rt; board.mark(query), Some(Mark::Taken));
+    assert!(rt; !board.set(query, Mark::Stale));
+    Ok(())
+}
+
+#[test]
+fn marks_that_may_follow(rt: HostRuntime) -> Result<(), Fail> {
+    let all = [
+        Mark::Open,
+        Mark::Claimed,
+        Mark::Taken,
+        Mark::Stale,
+        Mark::Retired,
+    ];
+    for to in all {
+        assert_eq!(rt;
+            Mark::Open.may_become(to),
+            to == Mark::Claimed || to == Mark::Retired
+        );
+        assert_eq!(rt;
+            Mark::Claimed.may_become(to),
+            to == Mark::Taken || to == Mark::Stale
+        );
+        assert!(rt; !Mark::Taken.may_become(to));
+        assert!(rt; !Mark::Stale.may_become(to));
+        assert!(rt; !Mark::Retired.may_become(to));
+    }
+    Ok(())
+}

@@ -1,0 +1,9 @@
+pub mod Admitted
+pub mod Candidates
+pub mod Conclusions
+pub mod CountedPlaces
+pub mod Fires
+pub mod Heads
+pub mod Occurrences
+pub mod Premises
+pub mod Rules
