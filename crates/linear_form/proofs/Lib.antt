@@ -1,0 +1,5 @@
+pub mod Composing
+pub mod Divided
+pub mod LinearForms
+pub mod Rows
+pub mod Signs
