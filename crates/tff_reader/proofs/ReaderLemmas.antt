@@ -1,6 +1,6 @@
 -- The answers of `read`, by the faults of the phases.
 use Rattle.std.proofs.Common.{◌≡◌, ℕ, List, [], ◌∷◌, ◌++◌, refl, sym, ◌∙◌, ap, subst}
-use Rattle.std.specs.Prelude.{Option, Some, None, Result, Ok, Err}
+use Rattle.std.specs.Prelude.{Option, Some}
 use Rattle.term_base.specs.declared.symbols.Symbol.{Symbol}
 use Rattle.formula_base.specs.declared.formulas.Formula.{Formula}
 use Rattle.formula_base.specs.declared.problems.Problem.{Problem}
@@ -9,7 +9,7 @@ use Rattle.tff_grammar.specs.declared.trees.Statement.{Statement}
 use Rattle.tff_grammar.specs.Answer.{IsText, IsFirstFault}
 use Rattle.tff_signature.specs.declared.faults.Later.{Later}
 use Rattle.tff_signature.specs.Names.{Name}
-use Rattle.tff_signature.specs.Faults.{Faults, checked}
+use Rattle.tff_signature.specs.Faults.{Faults}
 use Rattle.tff_signature.specs.Symbols.{Signature, signature_of}
 use Rattle.tff_reader.specs.declared.stops.Stop.{Stop}
 use Rattle.tff_reader.specs.declared.stops.Stop.TheVariants as stops
@@ -17,16 +17,12 @@ use Rattle.tff_reader.specs.declared.refusals.Refused.{Refused}
 use Rattle.tff_reader.specs.Stops.{first_of, Stops}
 use Rattle.tff_reader.specs.Meaning.{problem_of}
 use Rattle.tff_reader.specs.Answer.{later_faults, IsProblem, IsRefused, by_grammar, behind_grammar, refused_early, refused_later}
-use Rattle.tff_reader.proofs.StopLemmas.{stops_sooner, stops_later, checked_stops}
+use Rattle.tff_reader.proofs.StopLemmas.{stops_sooner, stops_later}
 
 abbrev pub sign : List Name → List Symbol → Signature
 sign sorts symbols = record { sorts = sorts; symbols = symbols }
 
 -- ---- the phases
-
-pub stops_declarations : (f : Later) (second third fourth : Faults) → checked second ≡ Err f → Stops (stops.Fault f) (second ++ third ++ fourth)
-stops_declarations f second third fourth h =
-    stops_sooner (stops.Fault f) (second ++ third) fourth (stops_sooner (stops.Fault f) second third (checked_stops second f h))
 
 pub stops_typing : (e : Stop) (second third fourth : Faults) → second ≡ [] → Stops e third → Stops e (second ++ third ++ fourth)
 stops_typing e second third fourth none h = stops_sooner e (second ++ third) fourth (stops_later e second third none h)

@@ -2,6 +2,7 @@
 ghost use Rattle.std.specs.Prelude.{◌≡◌, ◌<◌, ℕ, List, ◌∷◌, All};
 ghost use Rattle.std.specs.List.{AllPairs};
 ghost use Rattle.formula_base.specs.declared.problems.Problem.{Problem};
+ghost use Rattle.formula_base.specs.Typing.{IsWellTyped};
 ghost use Rattle.tff_grammar.specs.declared.trees.Statement.{Statement};
 ghost use Rattle.tff_grammar.specs.Answer.{IsText};
 ghost use Rattle.tff_signature.specs.declared.faults.Later as later;
@@ -34,3 +35,8 @@ pub fn one_answer()
     one_fault();
     no_fault_of_text();
 }
+
+/// The problem of a text is well typed.
+pub fn problems_are_well_typed()
+    ensures { (bytes : List ℕ) (p : Problem) → IsProblem bytes p → IsWellTyped p }
+{}

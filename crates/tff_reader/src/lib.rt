@@ -16,6 +16,6 @@ mod scopes;
 mod stops;
 mod terms;
 
-pub use laws::{faults_ascend, one_answer};
+pub use laws::{faults_ascend, one_answer, problems_are_well_typed};
 pub use reader::read;
 pub use refusals::{ReadError, Refused, RefusedName};

@@ -10,6 +10,8 @@ ghost use Rattle.tff_reader.specs.Answer.{IsProblem, Explains};
 ghost use Rattle.tff_reader.specs.Stops.{Reads};
 ghost use Rattle.tff_reader.specs.Meaning as meaning;
 ghost use Rattle.tff_signature.specs.Tables.{IsNamed};
+ghost use Rattle.tff_signature.specs.Declarations.{phase_2};
+ghost use Rattle.tff_signature.specs.Symbols.{signature_of};
 ghost use Rattle.std.specs.Option.{option_or};
 ghost use Rattle.tff_reader.specs.Contexts.{signature, AreRead, AddsFormula};
 
@@ -22,10 +24,13 @@ use sqlite_items::Items;
 use std::alloc::{AllocError, Global};
 use term_base::Name;
 use tff_grammar::{
-    Content, Fault, FaultName, ParseError, Span, Statement, no_fault_of_text, one_text, parse,
+    Content, Fault, FaultName, Formula as WrittenFormula, ParseError, Span, Statement,
+    no_fault_of_text, one_text, parse,
 };
 use tff_lexer::{Token, TokenKind};
-use tff_signature::{Later, LaterName, Names, check_declarations, declarations_of, signature_of};
+use tff_signature::{
+    Later, LaterName, Names, Signature, check_declarations, declarations_of, signature_of,
+};
 
 fn early_name(name: FaultName) -> RefusedName
     ensures { result ≡ spec.early_name name }
@@ -141,18 +146,31 @@ impl Formulas {
     }
 }
 
-/// The formulas of the statements.
-fn read_formulas(context: &Context<'_, '_, '_>, statements: &[Statement]) -> Result<Formulas, Stop>
+/// A statement that says nothing.
+fn blank() -> Statement {
+    Statement {
+        name: Span { start: 0, end: 0 },
+        content: Content::Premise(WrittenFormula::Constant(true)),
+    }
+}
+
+/// The formulas of the statements. The memory of a statement is free again when its formula is read.
+fn read_formulas(
+    context: &Context<'_, '_, '_>,
+    statements: Items<Statement>,
+) -> Result<Formulas, Stop>
     requires { IsNamed context.now.signature.now }
-    ensures { Reads result (meaning.typing_faults context.now.text.now (signature context.now) statements.now)
-        (AreRead context.now.text.now (signature context.now) statements.now) }
+    ensures { Reads result (meaning.typing_faults context.now.text.now (signature context.now) statements)
+        (AreRead context.now.text.now (signature context.now) statements) }
 {
     let mut formulas = Formulas {
         premises: Items::new(context.alloc),
         conjecture: None,
     };
-    for statement in statements {
-        formulas.add(context, &statement.content)?;
+    let mut left = statements;
+    for place in 0..left.len() {
+        formulas.add(context, &left.as_slice()[place].content)?;
+        left.set(place, blank());
     }
     Ok(formulas)
 }
@@ -167,25 +185,35 @@ fn sort_count(sorts: &Names) -> Result<u32, AllocError>
     }
 }
 
-/// The problem of the statements of a text, or the first fault behind the grammar.
-fn problem(alloc: Global, text: &[u8], statements: &[Statement]) -> Result<Problem, Stop>
-    ensures { Reads result (spec.later_faults text.now statements.now) (λ p. p ≡ meaning.problem_of text.now statements.now) }
+/// The declared sorts and the symbols of the statements of a text, or the first fault of their declarations and binders.
+fn tables(alloc: Global, text: &[u8], statements: &[Statement]) -> Result<(Names, Signature), Stop>
+    ensures { Reads result (phase_2 text.now statements.now) (λ (sorts, signature). (sorts ≡ (signature_of text.now statements.now).sorts)
+        × IsNamed signature × (signature.symbols ≡ (signature_of text.now statements.now).symbols)) }
 {
     let declared = declarations_of(alloc, text, statements)?;
     check_declarations(text, &declared, statements)?;
     let signature = signature_of(alloc, text, &declared, statements)?;
+    Ok((declared.sorts, signature))
+}
+
+/// The problem of the statements of a text, or the first fault behind the grammar.
+fn problem(alloc: Global, text: &[u8], statements: Items<Statement>) -> Result<Problem, Stop>
+    ensures { Reads result (spec.later_faults text.now statements) (λ p. p ≡ meaning.problem_of text.now statements) }
+{
+    let (sorts, signature) = tables(alloc, text, statements.as_slice())?;
     let context = &Context {
         alloc,
         text,
-        sorts: &declared.sorts,
+        sorts: &sorts,
         signature: &signature,
     };
+    let products = check_products(alloc, statements.as_slice());
     let formulas = read_formulas(context, statements)?;
-    check_products(alloc, statements)?;
-    let sorts = sort_count(&declared.sorts)?;
+    products?;
+    let count = sort_count(&sorts)?;
     Ok(Problem {
         symbols: signature.symbols,
-        sorts,
+        sorts: count,
         premises: formulas.premises,
         conjecture: formulas.conjecture,
     })
@@ -211,7 +239,7 @@ pub fn read(alloc: Global, bytes: &[u8]) -> Result<Problem, ReadError>
             return Err(ReadError::Refused(refused_early(alloc, bytes, fault)?));
         }
     };
-    match problem(alloc, bytes, statements.as_slice()) {
+    match problem(alloc, bytes, statements) {
         Ok(problem) => Ok(problem),
         Err(Stop::Memory) => Err(ReadError::Memory),
         Err(Stop::Fault(fault)) => Err(ReadError::Refused(refused_later(alloc, fault)?)),

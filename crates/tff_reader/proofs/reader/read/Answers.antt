@@ -11,9 +11,6 @@ use Rattle.tff_reader.proofs.WellTyped.{problem_typed}
 use Rattle.tff_reader.proofs.ReaderLemmas.{is_problem, is_refused, same_problem, not_refused}
 use Rattle.tff_reader.proofs.reader.read.Goals as goal
 
-pub returns-in-Err-Memory-clause-only : goal.returns-in-Err-Memory-clause-only
-returns-in-Err-Memory-clause-only c = λ p is. refl
-
 pub returns-in-Err-Fault-clause-refused : goal.returns-in-Err-Fault-clause-refused
 returns-in-Err-Fault-clause-refused c =
     let fault = rw c.in-Err-Fault.field-0-is at c.in-Err-Fault.ensures.fault in
@@ -24,46 +21,35 @@ returns-in-Err-Fault-clause-only c = λ p is.
     let fault = rw c.in-Err-Fault.field-0-is at c.in-Err-Fault.ensures.fault in
     absurd (c.no_fault_of_text.ensures c.args.bytes.now is.statements c.in-Err-Fault.fault is.text fault)
 
-pub returns-in-Ok-problem-clause-ok : goal.returns-in-Ok-problem-clause-ok
-returns-in-Ok-problem-clause-ok c =
-    let bytes = c.args.bytes.now in
-    let ss : List Statement = c.as_slice.result.now in
-    let text : IsText bytes ss = subst (IsText bytes) (sym c.as_slice.ensures) c.in-Ok.ensures.ok in
-    let h = c.in-Ok-problem.ensures in
-    is_problem bytes ss c.in-Ok-problem.problem text h.0 h.1
-
 pub returns-in-Ok-problem-clause-typed : goal.returns-in-Ok-problem-clause-typed
 returns-in-Ok-problem-clause-typed c =
     let h = c.in-Ok-problem.ensures in
-    subst IsWellTyped (sym h.1) (problem_typed c.args.bytes.now c.as_slice.result.now h.0)
+    subst IsWellTyped (sym h.1) (problem_typed c.args.bytes.now c.in-Ok.statements h.0)
 
 pub returns-in-Ok-problem-clause-numbered : goal.returns-in-Ok-problem-clause-numbered
 returns-in-Ok-problem-clause-numbered c =
     let h = c.in-Ok-problem.ensures in
-    subst (λ (q : Problem). All IsNumbered (formulas q)) (sym h.1) (problem_numbered c.args.bytes.now c.as_slice.result.now)
+    subst (λ (q : Problem). All IsNumbered (formulas q)) (sym h.1) (problem_numbered c.args.bytes.now c.in-Ok.statements)
 
 pub returns-in-Ok-problem-clause-only : goal.returns-in-Ok-problem-clause-only
 returns-in-Ok-problem-clause-only c = λ p is.
     let bytes = c.args.bytes.now in
-    let ss : List Statement = c.as_slice.result.now in
-    let text : IsText bytes ss = subst (IsText bytes) (sym c.as_slice.ensures) c.in-Ok.ensures.ok in
+    let ss : List Statement = c.in-Ok.statements in
+    let text = c.in-Ok.ensures.ok in
     same_problem c.one_text.ensures bytes ss c.in-Ok-problem.problem p text c.in-Ok-problem.ensures.1 is
 
-pub returns-in-Err-Memory-problem-clause-only : goal.returns-in-Err-Memory-problem-clause-only
-returns-in-Err-Memory-problem-clause-only c = λ p is. refl
-
-pub returns-clause-refused : goal.returns-clause-refused
-returns-clause-refused c =
+pub returns-in_ok-refused_later-in-Err-Fault-problem-clause-refused : goal.returns-in_ok-refused_later-in-Err-Fault-problem-clause-refused
+returns-in_ok-refused_later-in-Err-Fault-problem-clause-refused c =
     let bytes = c.args.bytes.now in
-    let ss : List Statement = c.as_slice.result.now in
-    let text : IsText bytes ss = subst (IsText bytes) (sym c.as_slice.ensures) c.in-Ok.ensures.ok in
+    let ss : List Statement = c.in-Ok.statements in
+    let text = c.in-Ok.ensures.ok in
     let first = rw c.in-Err-Fault-problem.field-0-is at c.in-Err-Fault-problem.ensures in
     is_refused bytes ss c.in-Err-Fault-problem.fault c.in_ok-refused_later-in-Err-Fault-problem.field-0 text first c.in_ok-refused_later-in-Err-Fault-problem.ensures
 
-pub returns-clause-only : goal.returns-clause-only
-returns-clause-only c = λ p is.
+pub returns-in_ok-refused_later-in-Err-Fault-problem-clause-only : goal.returns-in_ok-refused_later-in-Err-Fault-problem-clause-only
+returns-in_ok-refused_later-in-Err-Fault-problem-clause-only c = λ p is.
     let bytes = c.args.bytes.now in
-    let ss : List Statement = c.as_slice.result.now in
-    let text : IsText bytes ss = subst (IsText bytes) (sym c.as_slice.ensures) c.in-Ok.ensures.ok in
+    let ss : List Statement = c.in-Ok.statements in
+    let text = c.in-Ok.ensures.ok in
     let first = rw c.in-Err-Fault-problem.field-0-is at c.in-Err-Fault-problem.ensures in
     absurd (not_refused c.one_text.ensures bytes ss c.in-Err-Fault-problem.fault p text first is)
