@@ -1,0 +1,4 @@
+pub mod Ending
+pub mod Fronts
+pub mod Kinds
+pub mod Runs
