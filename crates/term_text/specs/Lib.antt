@@ -1,0 +1,5 @@
+pub mod Variables
+pub mod Terms
+pub mod Clauses
+pub mod Places
+pub mod Substitutions
