@@ -1,0 +1,20 @@
+use Rattle.std.specs.Prelude.{codes}
+use Rattle.std.proofs.lemmas.Result.{err_from_is_err_and, MatchResult-weaker}
+use Rattle.text_ends.specs.Ending.{no_byte}
+use Rattle.text_ends.proofs.Lifts.{lift-self, last_unread}
+use Rattle.text_ends.proofs.Words.{read_front, front_fails}
+use Rattle.proof_text.specs.Rules.{At}
+use Rattle.term_text.proofs.PlaceReading.{sure-place}
+use Rattle.proof_text.proofs.rules.at.Goals as goal
+
+pub returns-in_err-behind : goal.returns-in_err-behind
+returns-in_err-behind c =
+    let l0 = lift-self no_byte At c.args.text.now in
+    let p = err_from_is_err_and c.from_residual.result c.from_residual.ensures.1 in
+    rw (p.1, p.2) (front_fails (codes " ") l0 sure-place c.in_err-behind.ensures.err)
+
+pub returns : goal.returns
+returns c =
+    let l0 = lift-self no_byte At c.args.text.now in
+    let l1 = read_front (codes " ") l0 c.in_ok-behind.ensures.ok in
+    MatchResult-weaker c.place.result c.place.ensures (λ f r. l1.reads f.0 f.1.now r) (λ e f. last_unread l1 e f)
