@@ -136,6 +136,28 @@ def choices(count):
     return "\n".join(lines).encode()
 
 
+PROOF = b"tff(a,axiom,$less(3,2)).\n% SZS status Unsatisfiable for stdin\nderivation 1 abstraction\n"
+
+
+def long_proof(mebibytes):
+    """A problem and behind it a derivation that takes its one clause over and over, and closes it."""
+    room = mebibytes * MEBIBYTE - len(PROOF) - 100
+    lines = []
+    while room > 0:
+        lines.append(f"{len(lines)} input 0 : (3 + 1) <= 2\n".encode())
+        room -= len(lines[-1])
+    last = f"{len(lines)} close 0 cert 0 case 0 1 clash 0 : $false\nend\n".encode()
+    return PROOF + b"".join(lines) + last
+
+
+def certificate(levels):
+    """A certificate that branches so many levels deep, with the same false fact at each leaf."""
+    tree = f"case 0 1 clash {levels}"
+    for _ in range(levels):
+        tree = f"branch 0 0 {tree} {tree}"
+    return PROOF + f"0 input 0 : (3 + 1) <= 2\n1 close 0 cert 0 {tree} : $false\nend\n".encode()
+
+
 def main():
     if not os.access(PROGRAM, os.X_OK):
         sys.exit(f"no program at {PROGRAM}: run ./prove on a problem first")
@@ -150,12 +172,17 @@ def main():
     series("Chains of differences", (100, 200, 400, 800, 999, 2000), chain, most)
     series("Alternations, a and a + 1", (1, 2, 3, 4, 5), alternation, most)
     series("Certificates, choices", (2, 4, 6, 8, 10, 12), choices, most)
+    check = ("--check",)
+    proofs = series("Derivations behind their problem, MiB: checked", sizes, long_proof, check, "% verified derivation")
+    series("Certificates, levels of branches (15 have 98,303 nodes): checked", (10, 11, 12, 13, 14, 15), certificate, check, "% verified derivation")
     print("\nGoals")
     print(f"  the first problem within 0.010 s: {min(row[1] for row in first):.4f} s")
     every = (("refused", refused), ("prepared", ready), ("of eight comparisons refused", joined), ("of long names prepared", long), ("of short tokens prepared", packed))
     for name, rows in every:
         size, seconds, memory = rows[-1]
         print(f"  16 MiB {name} in under 3 s: {seconds:.2f} s; at most 40 times the input: {memory * MEBIBYTE / size:.1f} times")
+    size, seconds, memory = proofs[-1]
+    print(f"  a derivation of 16 MiB checked in a few seconds: {seconds:.2f} s; {memory * MEBIBYTE / size:.1f} times the input")
 
 
 if __name__ == "__main__":

@@ -1,7 +1,7 @@
 -- What a verdict on the pool of clauses says of them.
-use Rattle.std.specs.Prelude.{◌≡◌, ◌↔◌, ℕ, List, [], None, Option, IsTrue}
+use Rattle.std.specs.Prelude.{◌≡◌, ◌↔◌, ℕ, List, None, IsTrue}
 use Rattle.std.specs.List.Sorted.{IsStrictlyIncreasing}
-use Rattle.std.proofs.Common.{refl, sym, ◌∙◌, ap, subst}
+use Rattle.std.proofs.Common.{subst}
 use Rattle.term_base.specs.declared.clauses.Clause.{Clause}
 use Rattle.lin_base.specs.declared.facts.Pool.{Pool}
 use Rattle.lin_base.specs.Sum.{Valuation}

@@ -1,7 +1,8 @@
 pub mod Joining
-pub mod Refuting
-pub mod Numbers
 pub mod Spelling
 pub mod Values
 pub mod Judged
+pub mod SameLemmas
+pub mod Deriving
+pub mod Steps
 pub mod RowLemmas

@@ -20,7 +20,7 @@ use Rattle.cert_tree.specs.declared.certs.Tree.TheOpen.{Tree-F, Case, Combine, C
 use Rattle.cert_tree.specs.declared.certs.Tree.TheFolds.{fold-roll-Tree, map-Tree, ind-Tree}
 use Rattle.cert_tree.specs.declared.certs.Tree.TheViews.{roll-Tree}
 use Rattle.cert_tree.specs.Counting.{is_over_free}
-use Rattle.cert_tree.specs.Children.{with_each, combination, cut_of, branch_facts, residue_children, solve_child, least_children}
+use Rattle.cert_tree.specs.Children.{with_each, combination, cut_of, residue_children, solve_child, least_children}
 use Rattle.cert_tree.specs.Narrow.{option_then}
 use Rattle.cert_tree.specs.Rows.{extended, row_over, row_on, row_stands_on, row_clause}
 use Rattle.cert_tree.specs.Stands.{Stands, each_stands, is_open_case, tree_stands}

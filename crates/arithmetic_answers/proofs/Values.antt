@@ -1,5 +1,5 @@
 -- The values of parameters, and clauses without literals.
-use Rattle.std.specs.Prelude.{◌≡◌, ◌<◌, ◌+◌, ℕ, zero, suc, ℤ, pos, Bool, true, false, ◌==◌, length, List, [], ◌∷◌, Option, Some, None, IsTrue, if◌then◌else◌}
+use Rattle.std.specs.Prelude.{◌≡◌, ◌<◌, ◌+◌, ℕ, zero, suc, ℤ, pos, Bool, true, false, ◌==◌, length, List, [], ◌∷◌, Option, Some}
 use Rattle.std.specs.List.{list_any}
 use Rattle.std.specs.List.Sorted.{IsStrictlyIncreasing}
 use Rattle.std.proofs.Common.{refl, sym, ◌∙◌, ap, subst, arith, cond, get_or, slice_index}
@@ -8,9 +8,8 @@ use Rattle.std.proofs.lemmas.Bool.Decides.{nat_tests}
 use Rattle.std.proofs.lemmas.List.Kept.{AllPairs-from_increasing}
 use Rattle.term_base.specs.declared.clauses.Clause.{Clause}
 use Rattle.term_base.specs.declared.clauses.Literal.{Literal}
-use Rattle.lin_base.specs.Sum.{Valuation}
 use Rattle.cert_tree.specs.Laws.{valuation}
-use Rattle.bg_view.specs.Truth.{Symbols, Variables, AreTrueAt, AreContradictory, GivesSymbols, literal_holds}
+use Rattle.bg_view.specs.Truth.{Symbols, Variables, AreContradictory, GivesSymbols, literal_holds}
 use Rattle.arithmetic_answers.specs.Decisions.{first_empty, has_no_literal, value_of}
 
 -- ---- values

@@ -1,5 +1,5 @@
 -- What background clauses decide: they contradict each other, or they are true at values, or why neither is known.
-use Rattle.std.specs.Prelude.{◌≡◌, ℕ, zero, suc, ℤ, pos, Bool, true, false, ◌==◌, List, [], ◌∷◌, Option, Some, None, if◌then◌else◌}
+use Rattle.std.specs.Prelude.{◌≡◌, ℕ, suc, ℤ, pos, Bool, true, false, ◌==◌, List, [], ◌∷◌, Option, Some, None, if◌then◌else◌}
 use Rattle.term_base.specs.declared.clauses.Clause.{Clause}
 use Rattle.term_base.specs.declared.clauses.Literal.{Literal}
 use Rattle.lin_base.specs.declared.facts.Pool.{Pool}

@@ -1,5 +1,5 @@
 pub mod Decisions
 pub mod Judging
+pub mod Derivations
 pub mod Texts
-pub mod Closing
 pub mod Rows

@@ -1,10 +1,15 @@
 -- Worked rows of the definitions.
-use Rattle.std.specs.Prelude.{◌≡◌, ℕ, pos, negsuc, [], ◌∷◌, codes, Some, None}
+use Rattle.std.specs.Prelude.{◌≡◌, pos, negsuc, true, false, [], ◌∷◌, codes, Some, None}
+use Rattle.term_base.specs.declared.clauses.Clause.{Clause}
 use Rattle.term_base.specs.declared.clauses.Literal.TheVariants as literal
 use Rattle.term_base.specs.declared.terms.Term.TheVariants as term
 use Rattle.lin_base.specs.declared.wides.Op.TheVariants.{Add}
+use Rattle.cert_tree.specs.declared.certs.Cert.{Cert}
+use Rattle.proof_steps.specs.declared.steps.Rule.TheVariants.{Input, Close}
+use Rattle.proof_text.specs.declared.kinds.Status.TheVariants.{Theorem, Unsatisfiable}
 use Rattle.arithmetic_answers.specs.Decisions.{first_empty, value_of}
-use Rattle.arithmetic_answers.specs.Texts.{close_step, premises, values_text, wide_line}
+use Rattle.arithmetic_answers.specs.Derivations.{empty_clause_derivation, numbers, refutation, szs_status}
+use Rattle.arithmetic_answers.specs.Texts.{values_text, wide_line}
 
 -- of two clauses the second is empty
 abbrev pub SecondIsEmpty : Type 0
@@ -18,13 +23,24 @@ NoneIsEmpty = first_empty 0 [] ≡ None
 abbrev pub ValuesByPlace : Type 0
 ValuesByPlace = (value_of (3 ∷ 7 ∷ []) (pos 5 ∷ negsuc 0 ∷ []) 7 ≡ negsuc 0) × (value_of (3 ∷ 7 ∷ []) (pos 5 ∷ negsuc 0 ∷ []) 4 ≡ pos 0)
 
--- three steps are closed by step 3
-abbrev pub ThreeClosed : Type 0
-ThreeClosed = close_step 3 (codes "C") ≡ codes "3 close 0,1,2 C : $false\n"
+-- the numbers of three steps, and of none
+abbrev pub NumbersFromZero : Type 0
+NumbersFromZero = (numbers 0 3 ≡ 0 ∷ 1 ∷ 2 ∷ []) × (numbers 0 0 ≡ [])
 
--- no step is closed by step 0
-abbrev pub NoneClosed : Type 0
-NoneClosed = premises 0 ≡ codes "-"
+-- clause 4 is taken, and is empty
+abbrev pub FourIsTaken : Type 0
+FourIsTaken = empty_clause_derivation true 4 ≡ record { ordinary = true; steps = record { rule = Input 4; clause = record { literals = [] } } ∷ [] }
+
+-- two clauses are taken, and closed by step 2
+abbrev pub TwoClosed : Type 0
+TwoClosed = (c d : Clause) (cert : Cert) → refutation false (c ∷ d ∷ []) cert ≡ record {
+  ordinary = false;
+  steps = record { rule = Input 0; clause = c } ∷ record { rule = Input 1; clause = d } ∷ record { rule = Close (0 ∷ 1 ∷ []) cert; clause = record { literals = [] } } ∷ [];
+}
+
+-- the statuses with a conjecture and without one
+abbrev pub TwoStatuses : Type 0
+TwoStatuses = (szs_status true ≡ Theorem) × (szs_status false ≡ Unsatisfiable)
 
 -- two values
 abbrev pub TwoValues : Type 0

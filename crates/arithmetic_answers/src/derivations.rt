@@ -1,165 +1,136 @@
-//! Derivations of falsehood.
+//! Derivations of falsehood, and their texts.
 
-ghost use Rattle.std.specs.Prelude.{◌≡◌, ◌++◌, ◌≤◌, ◌-◌, IsTrue, OnOk, IfOk};
-ghost use Rattle.arithmetic_answers.specs.Texts as spec;
-ghost use Rattle.arithmetic_answers.specs.Closing.{AddsClose};
+ghost use Rattle.std.specs.Prelude.{◌≡◌, [], ◌∷◌, ◌++◌, reverse, IfOk, IsTrue};
+ghost use Rattle.arithmetic_answers.specs.Derivations as spec;
 ghost use Rattle.cert_text.specs.Spelled.{is_spelled};
+ghost use Rattle.proof_text.specs.Derivations.{Spells};
 
-use cert_text::push_cert;
 use cert_tree::Cert;
-use clause_text::push_clause;
+use proof_steps::{Derivation, Rule, Step};
+use proof_text::{Status, print_text};
+use sqlite_items::Items;
 use std::alloc::{AllocError, Global};
 use term_base::Clause;
-use text_pieces::{push, push_decimal};
 
-/// The word for the variables of clauses with a foreground symbol.
-pub fn header_word(ordinary: bool) -> &'static [u8]
-    ensures { result.now ≡ spec.header_word ordinary }
-{
-    if ordinary {
-        b"ordinary"
-    } else {
-        b"abstraction"
-    }
-}
-
-fn status_word(has_conjecture: bool) -> &'static [u8]
-    ensures { result.now ≡ spec.status_word has_conjecture }
+// The status of a problem whose clauses contradict each other.
+fn szs_status(has_conjecture: bool) -> Status
+    ensures { result ≡ spec.szs_status has_conjecture }
 {
     if has_conjecture {
-        b"Theorem"
+        Status::Theorem
     } else {
-        b"Unsatisfiable"
+        Status::Unsatisfiable
     }
 }
 
-// Puts what stands before the steps behind the text.
-#[tactic(auto, using(crate::proofs::Joining::joined))]
-fn push_header(text: &mut Vec<u8>, ordinary: bool, has_conjecture: bool) -> Result<(), AllocError>
-    ensures { OnOk result (text.new.items ≡ text.old.items ++ spec.header ordinary has_conjecture) }
+// The number of a clause or a step; one that doesn't fit counts as want of memory.
+fn narrow(number: u64) -> Result<u32, AllocError>
+    ensures { IfOk result (λ n. n ≡ number) }
 {
-    push(text, b"% SZS status ")?;
-    push(text, status_word(has_conjecture))?;
-    push(text, b" for stdin\nderivation 1 ")?;
-    push(text, header_word(ordinary))?;
-    push(text, b"\n")
+    match u32::try_from(number) {
+        Ok(narrow) => Ok(narrow),
+        Err(_) => Err(AllocError),
+    }
 }
 
-// Puts the number of a step and the number of the clause that it takes behind the text.
-#[tactic(auto, using(crate::proofs::Joining::joined))]
-fn push_input(alloc: Global, text: &mut Vec<u8>, step: u64, clause: u64) -> Result<(), AllocError>
-    ensures { OnOk result (text.new.items ≡ text.old.items ++ spec.input step clause) }
+// The step that takes the clause of this number.
+fn input_step(number: u64, clause: Clause) -> Result<Step, AllocError>
+    ensures { IfOk result (λ s. s ≡ spec.input_step number clause) }
 {
-    push_decimal(alloc, text, u128::from(step))?;
-    push(text, b" input ")?;
-    push_decimal(alloc, text, u128::from(clause))?;
-    push(text, b" : ")
+    let rule = Rule::Input {
+        clause: narrow(number)?,
+    };
+    Ok(Step { rule, clause })
 }
 
-/// The derivation whose one step takes an empty clause.
-#[tactic(auto, using(crate::proofs::Joining::joined))]
-pub fn empty_clause(
+// The empty clause.
+fn empty_clause(alloc: Global) -> Clause
+    ensures { result ≡ spec.empty_clause }
+{
+    Clause {
+        literals: Items::new(alloc),
+    }
+}
+
+// So many numbers from 0 on.
+fn numbers(alloc: Global, count: u32) -> Result<Items<u32>, AllocError>
+    ensures { IfOk result (λ ns. ns ≡ spec.numbers 0 count) }
+{
+    let mut all = Items::new(alloc);
+    for number in 0..count {
+        all.push(number)?;
+    }
+    Ok(all)
+}
+
+// The step that closes so many first steps.
+fn close_step(alloc: Global, count: u64, cert: Cert) -> Result<Step, AllocError>
+    ensures { IfOk result (λ s. s ≡ spec.close_step count cert) }
+{
+    let of = numbers(alloc, narrow(count)?)?;
+    Ok(Step {
+        rule: Rule::Close { of, cert },
+        clause: empty_clause(alloc),
+    })
+}
+
+// The steps that take the clauses, and behind them the last one, all the last one first.
+fn backwards(alloc: Global, clauses: Items<Clause>, last: Step) -> Result<Vec<Step>, AllocError>
+    ensures { IfOk result (λ steps.
+        reverse steps.items ≡ spec.input_steps 0 clauses ++ last ∷ []) }
+{
+    let mut clauses = clauses;
+    let mut steps = Vec::new(alloc);
+    steps.push(last)?;
+    while let Some(clause) = clauses.pop() {
+        steps.push(input_step(clauses.len() as u64, clause)?)?;
+    }
+    Ok(steps)
+}
+
+// The steps that take the clauses and close them by the certificate.
+fn refutation_steps(
+    alloc: Global,
+    clauses: Items<Clause>,
+    cert: Cert,
+) -> Result<Items<Step>, AllocError>
+    ensures { IfOk result (λ steps. steps ≡ spec.refutation_steps clauses cert) }
+{
+    let last = close_step(alloc, clauses.len() as u64, cert)?;
+    let mut steps = backwards(alloc, clauses, last)?;
+    steps.reverse();
+    Ok(Items::from_vec(steps))
+}
+
+/// The text of the derivation whose one step takes the clause of this number, which is empty. A number past 2^32 - 1 counts as want of memory.
+pub fn empty_clause_text(
     alloc: Global,
     ordinary: bool,
     has_conjecture: bool,
-    clause: u64,
-) -> Result<Vec<u8>, AllocError>
-    ensures { IfOk result
-        (λ text. text.items ≡ spec.empty_clause_text ordinary has_conjecture clause) }
-{
-    let mut text = Vec::new(alloc);
-    push_header(&mut text, ordinary, has_conjecture)?;
-    push_input(alloc, &mut text, 0, clause)?;
-    push(&mut text, b"$false\nend\n")?;
-    Ok(text)
-}
-
-// Puts the step that takes the clause of its own number behind the text.
-#[tactic(auto, using(crate::proofs::Joining::joined))]
-fn push_input_step(
-    alloc: Global,
-    text: &mut Vec<u8>,
     number: u64,
-    clause: &Clause,
-) -> Result<(), AllocError>
-    ensures { OnOk result (text.new.items ≡ text.old.items ++ spec.input_step number clause.now) }
+) -> Result<Vec<u8>, AllocError>
+    ensures { IfOk result
+        (λ text. Spells (spec.szs_status has_conjecture, spec.empty_clause_derivation ordinary number) text.items) }
 {
-    push_input(alloc, text, number, number)?;
-    push_clause(alloc, text, clause)?;
-    push(text, b"\n")
+    let mut steps = Items::new(alloc);
+    steps.push(input_step(number, empty_clause(alloc))?)?;
+    let derivation = Derivation { ordinary, steps };
+    print_text(alloc, szs_status(has_conjecture), &derivation)
 }
 
-// Puts a step for each clause behind the text.
-fn push_input_steps(alloc: Global, text: &mut Vec<u8>, clauses: &[Clause]) -> Result<(), AllocError>
-    ensures { OnOk result (text.new.items ≡ text.old.items ++ spec.input_steps 0 clauses.now) }
-{
-    let mut number = 0u64;
-    for clause in clauses {
-        push_input_step(alloc, text, number, clause)?;
-        number += 1;
-    }
-    Ok(())
-}
-
-// Puts the numbers from 1 on below the count behind the text, each behind a comma.
-fn push_more_numbers(alloc: Global, text: &mut Vec<u8>, count: usize) -> Result<(), AllocError>
-    requires { 1 ≤ count }
-    ensures { OnOk result
-        (text.new.items ≡ text.old.items ++ spec.more_numbers 1 (count - 1)) }
-{
-    for number in 1..count {
-        push(text, b",")?;
-        push_decimal(alloc, text, number as u128)?;
-    }
-    Ok(())
-}
-
-// Puts the numbers of the first steps behind the text.
-#[tactic(auto, using(crate::proofs::Joining::joined))]
-fn push_premises(alloc: Global, text: &mut Vec<u8>, count: usize) -> Result<(), AllocError>
-    ensures { OnOk result (text.new.items ≡ text.old.items ++ spec.premises count) }
-{
-    if count == 0 {
-        return push(text, b"-");
-    }
-    push_decimal(alloc, text, 0)?;
-    push_more_numbers(alloc, text, count)
-}
-
-// Puts the step that closes the first steps behind the text.
-fn push_close_step(
-    alloc: Global,
-    text: &mut Vec<u8>,
-    count: usize,
-    cert: &Cert,
-) -> Result<(), AllocError>
-    requires { IsTrue (is_spelled cert.now) }
-    ensures { OnOk result (AddsClose count cert.now text.old.items text.new.items) }
-{
-    push_decimal(alloc, text, count as u128)?;
-    push(text, b" close ")?;
-    push_premises(alloc, text, count)?;
-    push(text, b" ")?;
-    push_cert(alloc, text, cert)?;
-    push(text, b" : $false\n")
-}
-
-/// The derivation that takes all clauses and closes them by the certificate.
-pub fn refutation(
+/// The text of the derivation that takes all clauses and closes them by the certificate. 2^32 clauses or more count as want of memory.
+pub fn refutation_text(
     alloc: Global,
     ordinary: bool,
     has_conjecture: bool,
-    clauses: &[Clause],
-    cert: &Cert,
+    clauses: Items<Clause>,
+    cert: Cert,
 ) -> Result<Vec<u8>, AllocError>
-    requires { IsTrue (is_spelled cert.now) }
+    requires { IsTrue (is_spelled cert) }
     ensures { IfOk result
-        (λ text. spec.IsRefutation ordinary has_conjecture clauses.now cert.now text.items) }
+        (λ text. Spells (spec.szs_status has_conjecture, spec.refutation ordinary clauses cert) text.items) }
 {
-    let mut text = Vec::new(alloc);
-    push_header(&mut text, ordinary, has_conjecture)?;
-    push_input_steps(alloc, &mut text, clauses)?;
-    push_close_step(alloc, &mut text, clauses.len(), cert)?;
-    push(&mut text, b"end\n")?;
-    Ok(text)
+    let steps = refutation_steps(alloc, clauses, cert)?;
+    let derivation = Derivation { ordinary, steps };
+    print_text(alloc, szs_status(has_conjecture), &derivation)
 }

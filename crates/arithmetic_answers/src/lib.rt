@@ -11,5 +11,5 @@ mod tests;
 mod texts;
 
 pub use deciding::{Decision, decide};
-pub use laws::definitions_give_rows;
+pub use laws::{definitions_give_rows, empty_clause_derives, refutation_derives};
 pub use texts::answer_text;

@@ -2,13 +2,24 @@
 
 ghost use Rattle.std.specs.List.{flat_map};
 ghost use Rattle.std.specs.Prelude.{◌≡◌, ◌++◌, OnOk, IfOk};
+ghost use Rattle.proof_text.specs.Derivations.{variables_word};
 ghost use Rattle.arithmetic_answers.specs.Texts as spec;
 
-use crate::derivations::header_word;
 use clause_text::push_clause;
 use std::alloc::{AllocError, Global};
 use term_base::Clause;
 use text_pieces::{push, push_blank_signed, push_decimal};
+
+// The word for the variables of clauses with a foreground symbol.
+fn variables_word(ordinary: bool) -> &'static [u8]
+    ensures { result.now ≡ variables_word ordinary }
+{
+    if ordinary {
+        b"ordinary"
+    } else {
+        b"abstraction"
+    }
+}
 
 // Puts a clause with its number behind the text.
 #[tactic(auto, using(crate::proofs::Joining::joined))]
@@ -73,7 +84,7 @@ pub fn saturated_list(
 {
     let mut text = Vec::new(alloc);
     push(&mut text, b"% Saturated for stdin\nlist 1 ")?;
-    push(&mut text, header_word(ordinary))?;
+    push(&mut text, variables_word(ordinary))?;
     push(&mut text, b"\nkept ")?;
     push_decimal(alloc, &mut text, clauses.len() as u128)?;
     push(&mut text, b"\n")?;

@@ -55,24 +55,31 @@ fn at_most(alloc: Global, n: i128) -> Result<Clause, AllocError> {
     Ok(Clause { literals })
 }
 
+// s0 <= 3 and s0 <= 5
+fn two_clauses(alloc: Global) -> Result<Items<Clause>, AllocError> {
+    let mut clauses = Items::new(alloc);
+    clauses.push(at_most(alloc, 3)?)?;
+    clauses.push(at_most(alloc, 5)?)?;
+    Ok(clauses)
+}
+
 // The text of what is decided of these clauses, and whether the judge was asked.
-fn decided(alloc: Global, clauses: &[Clause]) -> Result<(Vec<u8>, bool), AllocError> {
+fn decided(alloc: Global, clauses: Items<Clause>) -> Result<(Vec<u8>, bool), AllocError> {
     let mut judge = Zeros {
         asked: Items::new(alloc),
     };
-    if !are_background(&[], clauses) {
+    if !are_background(&[], clauses.as_slice()) {
         return Err(AllocError);
     }
-    let decision = decide(alloc, &[], clauses, &mut judge, 100)?;
-    let text = answer_text(alloc, false, false, clauses, &decision)?;
+    let decision = decide(alloc, &[], clauses.as_slice(), &mut judge, 100)?;
+    let text = answer_text(alloc, false, false, clauses, decision)?;
     Ok((text, judge.asked(0).is_some()))
 }
 
 #[test]
 fn decides_by_its_judge(rt: HostRuntime) -> Result<(), Fail> {
     let alloc = rt.alloc();
-    let clauses = vec![in alloc; at_most(alloc, 3)?, at_most(alloc, 5)?]?;
-    let (text, asked) = decided(alloc, &clauses)?;
+    let (text, asked) = decided(alloc, two_clauses(alloc)?)?;
     let written =
         "% Saturated for stdin\nlist 1 abstraction\nkept 2\n0 : s0 <= 3\n1 : s0 <= 5\ndropped 0\nvalues 1 0\nend\n";
     assert!(rt; asked && text.as_slice() == written.as_bytes());
@@ -82,30 +89,32 @@ fn decides_by_its_judge(rt: HostRuntime) -> Result<(), Fail> {
 #[test]
 fn decides_without_a_judge(rt: HostRuntime) -> Result<(), Fail> {
     let alloc = rt.alloc();
-    let empty = Clause {
+    let mut clauses = Items::new(alloc);
+    clauses.push(at_most(alloc, 3)?)?;
+    clauses.push(Clause {
         literals: Items::new(alloc),
-    };
-    let clauses = vec![in alloc; at_most(alloc, 3)?, empty]?;
-    let (text, asked) = decided(alloc, &clauses)?;
+    })?;
+    let (text, asked) = decided(alloc, clauses)?;
     let written =
         "% SZS status Unsatisfiable for stdin\nderivation 1 abstraction\n0 input 1 : $false\nend\n";
     assert!(rt; !asked && text.as_slice() == written.as_bytes());
-    let clauses = vec![in alloc; at_most(alloc, i128::MIN)?]?;
-    let (text, asked) = decided(alloc, &clauses)?;
+    let mut clauses = Items::new(alloc);
+    clauses.push(at_most(alloc, i128::MIN)?)?;
+    let (text, asked) = decided(alloc, clauses)?;
     let written = "% gave up: wide mul -1 -170141183460469231731687303715884105728\n";
     assert!(rt; !asked && text.as_slice() == written.as_bytes());
     Ok(())
 }
 
 // The text that tells a decision of two clauses.
-fn told(alloc: Global, decision: &Decision) -> Result<Vec<u8>, AllocError> {
-    let clauses = vec![in alloc; at_most(alloc, 3)?, at_most(alloc, 5)?]?;
-    match decision {
+fn told(alloc: Global, decision: Decision) -> Result<Vec<u8>, AllocError> {
+    let clauses = two_clauses(alloc)?;
+    match &decision {
         Decision::Refuted(_) => Err(AllocError),
         Decision::EmptyClause(_)
         | Decision::TooWide(_)
         | Decision::Satisfied(_)
-        | Decision::Unknown(_) => answer_text(alloc, true, true, &clauses, decision),
+        | Decision::Unknown(_) => answer_text(alloc, true, true, clauses, decision),
     }
 }
 
@@ -120,14 +129,14 @@ fn lines(rt: HostRuntime) -> Result<(), Fail> {
             right: -8,
         },
     };
-    let text = told(alloc, &Decision::TooWide(at))?;
+    let text = told(alloc, Decision::TooWide(at))?;
     assert!(rt; text.as_slice() == b"% gave up: wide add 7 -8\n".as_slice());
     for (why, line) in [
         (Why::Spent, "% gave up: unknown spent\n"),
         (Why::Wide, "% gave up: unknown wide\n"),
         (Why::Deep, "% gave up: unknown deep\n"),
     ] {
-        let text = told(alloc, &Decision::Unknown(why))?;
+        let text = told(alloc, Decision::Unknown(why))?;
         assert!(rt; text.as_slice() == line.as_bytes(), "{line}");
     }
     Ok(())
@@ -136,12 +145,17 @@ fn lines(rt: HostRuntime) -> Result<(), Fail> {
 #[test]
 fn a_refutation(rt: HostRuntime) -> Result<(), Fail> {
     let alloc = rt.alloc();
-    let clauses = vec![in alloc; at_most(alloc, 3)?, at_most(alloc, 5)?]?;
     let cert = Cert {
         rows: Items::new(alloc),
         tree: Tree::Clash { fact: 0 },
     };
-    let text = crate::derivations::refutation(alloc, true, true, &clauses, &cert)?;
+    let text = answer_text(
+        alloc,
+        true,
+        true,
+        two_clauses(alloc)?,
+        Decision::Refuted(cert),
+    )?;
     let written =
         "% SZS status Theorem for stdin\nderivation 1 ordinary\n0 input 0 : s0 <= 3\n1 input 1 : s0 <= 5\n2 close 0,1 cert 0 clash 0 : $false\nend\n";
     assert!(rt; text.as_slice() == written.as_bytes());

@@ -7,14 +7,23 @@ use judges::CooperJudge;
 use std::alloc::{AllocError, Global};
 use std::test::Fail;
 
-// Runs the program on the text: the status and what was written.
-fn run(alloc: Global, words: &[String], text: &str) -> Result<(u8, MemorySink), AllocError> {
-    let mut source = MemorySource::new(Vec::from_slice(alloc, text.as_bytes())?, Vec::new(alloc));
+// Runs the program on the bytes: the status and what was written.
+fn run_bytes(
+    alloc: Global,
+    words: &[String],
+    bytes: Vec<u8>,
+) -> Result<(u8, MemorySink), AllocError> {
+    let mut source = MemorySource::new(bytes, Vec::new(alloc));
     let mut sink = MemorySink::new(alloc, 100_000, 100_000, Vec::new(alloc))?;
     let mut judges: Vec<Box<dyn Judge + Send>> = Vec::new(alloc);
     judges.push(Box::new(alloc, CooperJudge::new(alloc))?)?;
     let ended = beagle(alloc, words, &mut source, &mut sink, judges);
     Ok((ended.status, sink))
+}
+
+// Runs the program on the text.
+fn run(alloc: Global, words: &[String], text: &str) -> Result<(u8, MemorySink), AllocError> {
+    run_bytes(alloc, words, Vec::from_slice(alloc, text.as_bytes())?)
 }
 
 // Whether just this is written.
@@ -155,6 +164,40 @@ fn first_other(
     Ok(None)
 }
 
+// Whether what is written for the text is verified behind it.
+fn is_verified(alloc: Global, text: &str) -> Result<bool, AllocError> {
+    let (_, written) = run(alloc, &[], text)?;
+    let mut all = Vec::from_slice(alloc, text.as_bytes())?;
+    all.push(b'\n')?;
+    all.extend_from_slice(written.bytes())?;
+    let words = vec![in alloc; String::from_str(alloc, "--check")?]?;
+    let (status, sink) = run_bytes(alloc, &words, all)?;
+    Ok(status == 0 && sink.bytes() == b"% verified derivation\n".as_slice())
+}
+
+// The place of the first text whose answer isn't verified behind it.
+fn first_unverified(alloc: Global, texts: &[&str]) -> Result<Option<usize>, AllocError> {
+    for (place, text) in texts.iter().enumerate() {
+        if !is_verified(alloc, text)? {
+            return Ok(Some(place));
+        }
+    }
+    Ok(None)
+}
+
+// The examples with a proof.
+#[test]
+fn examples_are_verified(rt: HostRuntime) -> Result<(), Fail> {
+    let texts = [
+        "tff(x_type,type,x: $int).\ntff(y_type,type,y: $int).\ntff(x_low,axiom,$greatereq(x,3)).\ntff(y_low,axiom,$greater(y,3)).\ntff(goal,conjecture,$greatereq($sum(x,y),7)).",
+        "tff(goal,conjecture,![X: $int]: ?[Y: $int]: ($lesseq($product(2,Y),X) & $less(X,$sum($product(2,Y),2)))).",
+        "tff(goal,conjecture,![X: $int, Y: $int]: $product(2,X) != $sum($product(2,Y),1)).",
+        "% Three jobs, one after the other.\ntff(a_type,type,a: $int).\ntff(b_type,type,b: $int).\ntff(c_type,type,c: $int).\ntff(b_after_a,axiom,$lesseq($sum(a,3),b)).\ntff(c_after_b,axiom,$lesseq($sum(b,4),c)).\ntff(in_time,axiom,$lesseq($sum(c,2),$sum(a,8))).",
+    ];
+    assert_eq!(rt; first_unverified(rt.alloc(), texts.as_slice())?, None);
+    Ok(())
+}
+
 // What holds of all numbers.
 #[test]
 fn theorems(rt: HostRuntime) -> Result<(), Fail> {
@@ -178,6 +221,7 @@ fn theorems(rt: HostRuntime) -> Result<(), Fail> {
         first_other(rt.alloc(), 0, THEOREM, texts.as_slice())?,
         None
     );
+    assert_eq!(rt; first_unverified(rt.alloc(), texts.as_slice())?, None);
     Ok(())
 }
 
@@ -204,6 +248,7 @@ fn unsatisfiable(rt: HostRuntime) -> Result<(), Fail> {
         first_other(rt.alloc(), 0, UNSATISFIABLE, texts.as_slice())?,
         None
     );
+    assert_eq!(rt; first_unverified(rt.alloc(), texts.as_slice())?, None);
     Ok(())
 }
 

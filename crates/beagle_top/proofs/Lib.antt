@@ -6,5 +6,6 @@ pub mod Refusals
 pub mod Passing
 pub mod Judges
 pub mod StatusLemmas
-pub mod SectionLemmas
-pub mod RowLemmas
+pub mod Verified
+pub mod Symbols
+pub mod Printed

@@ -1,5 +1,5 @@
 -- At most one answer is due, up to what a judge says.
-use Rattle.std.proofs.Common.{◌≡◌, ◌∙◌, ℕ, Bool, true, List, [], ◌∷◌, length, refl, sym, ap, subst, inl, inr, arith}
+use Rattle.std.proofs.Common.{◌≡◌, ◌∙◌, ℕ, Bool, List, [], ◌∷◌, length, refl, sym, ap, subst, inl, inr, arith}
 use Rattle.std.specs.Prelude.{is_some}
 use Rattle.std.proofs.lemmas.Bool.{false≢true}
 use Rattle.term_base.specs.declared.clauses.Clause.{Clause}
@@ -14,10 +14,15 @@ use Rattle.bg_view.specs.declared.viewing.WideAt.{WideAt}
 use Rattle.arithmetic_answers.specs.declared.deciding.Decision.{Decision}
 use Rattle.arithmetic_answers.specs.declared.deciding.Decision.TheVariants.{EmptyClause, TooWide}
 use Rattle.arithmetic_answers.specs.Decisions.{Decides, first_empty, first_wide, queries_of}
-use Rattle.arithmetic_answers.specs.Texts.{Tells, empty_clause_text, wide_line}
-use Rattle.beagle_top.specs.Sections.{before_answer}
-use Rattle.beagle_top.specs.Texts.{refused}
-use Rattle.beagle_top.specs.Answer.{IsCheck, IsDueFor, IsDueIn, IsProof, IsReading, Limited, Refuses, clauses_of, crowded, decided, fault, foreground, input_limit, many, read, status_of, unbuilt}
+use Rattle.proof_steps.specs.declared.steps.Derivation.{Derivation}
+use Rattle.proof_text.specs.declared.kinds.Status.{Status}
+use Rattle.proof_text.specs.Derivations.{Spells}
+use Rattle.arithmetic_answers.specs.Derivations.{empty_clause_derivation, szs_status}
+use Rattle.arithmetic_answers.specs.Texts.{Tells, wide_line}
+use Rattle.proof_check.specs.declared.checked.Checked.{Checked}
+use Rattle.proof_check.specs.Checks.{Finds}
+use Rattle.beagle_top.specs.Texts.{found, refused}
+use Rattle.beagle_top.specs.Answer.{IsCheck, IsDueFor, IsDueIn, IsProof, IsReading, Limited, Refuses, clauses_of, decided, fault, foreground, found_status, input_limit, many, read, status_of}
 use Rattle.beagle_top.specs.Meaning.{IsOneAnswer}
 use Rattle.beagle_top.proofs.Deciding.{HowDecided, by_clause, by_query, by_range, how, no_value, not_both, one_value, zero_or_one}
 
@@ -30,7 +35,10 @@ both_refused l m a b x y s t f g e = record {
 }
 
 -- ---- decisions
-module _ (ordinary has_conjecture : Bool) (cs : List Clause) (limit : ℕ) (d e : Decision) (h : Decides cs limit d) (i : Decides cs limit e)
+abbrev OneSpelling : Type 0
+OneSpelling = (p : Status × Derivation) (text other : List ℕ) → Spells p text → Spells p other → text ≡ other
+
+module _ (spelling : OneSpelling) (ordinary has_conjecture : Bool) (cs : List Clause) (limit : ℕ) (d e : Decision) (h : Decides cs limit d) (i : Decides cs limit e)
     (a b x y : List ℕ) (s t : ℕ) (p : a ≡ queries_of d) (q : b ≡ queries_of e) (m : s ≡ status_of d) (n : t ≡ status_of e)
     (f : Tells ordinary has_conjecture cs d x) (g : Tells ordinary has_conjecture cs e y) where
   never_apart : s ≡ 0 → t ≡ 1 → ⊥
@@ -55,9 +63,11 @@ module _ (ordinary has_conjecture : Bool) (cs : List Clause) (limit : ℕ) (d e 
   one_decision : HowDecided cs d → HowDecided cs e → IsOneAnswer a b s t x y
   one_decision (by_clause k u v) (by_clause l w z) =
       let same = one_value (first_empty 0 cs) l k w u in
-      let xs : x ≡ empty_clause_text ordinary has_conjecture k = subst (λ (c : Decision). Tells ordinary has_conjecture cs c x) v f in
-      let ys : y ≡ empty_clause_text ordinary has_conjecture l = subst (λ (c : Decision). Tells ordinary has_conjecture cs c y) z g in
-      same_decision (EmptyClause k) refl v (z ∙ ap (λ (n : ℕ). EmptyClause n) same) (xs ∙ (ap (empty_clause_text ordinary has_conjecture) (sym same) ∙ sym ys))
+      let first : ℕ → Status × Derivation = λ n. (szs_status has_conjecture, empty_clause_derivation ordinary n) in
+      let xs : Spells (first k) x = subst (λ (c : Decision). Tells ordinary has_conjecture cs c x) v f in
+      let ys : Spells (first l) y = subst (λ (c : Decision). Tells ordinary has_conjecture cs c y) z g in
+      same_decision (EmptyClause k) refl v (z ∙ ap (λ (n : ℕ). EmptyClause n) same)
+      (spelling (first k) x y xs (subst (λ (n : ℕ). Spells (first n) y) same ys))
   one_decision (by_clause k u v) (by_range at w z) = absurd (no_value (first_empty 0 cs) k u w.no_empty)
   one_decision (by_clause k u v) (by_query pool z) = absurd (no_value (first_empty 0 cs) k u pool.no_empty)
   one_decision (by_range at u v) (by_clause k w z) = absurd (no_value (first_empty 0 cs) k w u.no_empty)
@@ -72,29 +82,36 @@ module _ (ordinary has_conjecture : Bool) (cs : List Clause) (limit : ℕ) (d e 
   one_decision (by_query pool u) (by_query also v) = both_asked u v
 
 -- ---- problems
-one_proof : (o : Options) (p : Problem) (a b : List ℕ) (s t : ℕ) (x y : List ℕ) → IsProof o p a s x → IsProof o p b t y → IsOneAnswer a b s t x y
-one_proof o p a b s t x y (many over f) (many also g) = both_refused _ _ a b x y s t f g refl
-one_proof o p a b s t x y (many over f) (foreground few other g) = absurd (not_both max_clauses (count_of p) over few)
-one_proof o p a b s t x y (many over f) (decided d few all h q n g) = absurd (not_both max_clauses (count_of p) over few)
-one_proof o p a b s t x y (foreground few other f) (many over g) = absurd (not_both max_clauses (count_of p) over few)
-one_proof o p a b s t x y (foreground few other f) (foreground also too g) = both_refused _ _ a b x y s t f g refl
-one_proof o p a b s t x y (foreground few other f) (decided d also all h q n g) = absurd (false≢true (sym other ∙ all))
-one_proof o p a b s t x y (decided d few all h q n f) (many over g) = absurd (not_both max_clauses (count_of p) over few)
-one_proof o p a b s t x y (decided d few all h q n f) (foreground also other g) = absurd (false≢true (sym other ∙ all))
-one_proof o p a b s t x y (decided d few all h q n f) (decided e also too i r k g) =
+one_proof : OneSpelling → (o : Options) (p : Problem) (a b : List ℕ) (s t : ℕ) (x y : List ℕ) → IsProof o p a s x → IsProof o p b t y → IsOneAnswer a b s t x y
+one_proof spelling o p a b s t x y (many over f) (many also g) = both_refused _ _ a b x y s t f g refl
+one_proof spelling o p a b s t x y (many over f) (foreground few other g) = absurd (not_both max_clauses (count_of p) over few)
+one_proof spelling o p a b s t x y (many over f) (decided d few all h q n g) = absurd (not_both max_clauses (count_of p) over few)
+one_proof spelling o p a b s t x y (foreground few other f) (many over g) = absurd (not_both max_clauses (count_of p) over few)
+one_proof spelling o p a b s t x y (foreground few other f) (foreground also too g) = both_refused _ _ a b x y s t f g refl
+one_proof spelling o p a b s t x y (foreground few other f) (decided d also all h q n g) = absurd (false≢true (sym other ∙ all))
+one_proof spelling o p a b s t x y (decided d few all h q n f) (many over g) = absurd (not_both max_clauses (count_of p) over few)
+one_proof spelling o p a b s t x y (decided d few all h q n f) (foreground also other g) = absurd (false≢true (sym other ∙ all))
+one_proof spelling o p a b s t x y (decided d few all h q n f) (decided e also too i r k g) =
     let cs = clauses_of p o.ordinary in
-    one_decision o.ordinary (is_some p.conjecture) cs o.judge_steps d e h i a b x y s t q r n k f g (how cs o.judge_steps d h) (how cs o.judge_steps e i)
+    one_decision spelling o.ordinary (is_some p.conjecture) cs o.judge_steps d e h i a b x y s t q r n k f g (how cs o.judge_steps d h) (how cs o.judge_steps e i)
 
-one_check : (p : Problem) (a b : List ℕ) (s t : ℕ) (x y : List ℕ) → IsCheck p a s x → IsCheck p b t y → IsOneAnswer a b s t x y
-one_check p a b s t x y (crowded over f) (crowded also g) = both_refused _ _ a b x y s t f g refl
-one_check p a b s t x y (crowded over f) (unbuilt few g) = absurd (not_both max_clauses (count_of p) over few)
-one_check p a b s t x y (unbuilt few f) (crowded over g) = absurd (not_both max_clauses (count_of p) over few)
-one_check p a b s t x y (unbuilt few f) (unbuilt also g) = both_refused _ _ a b x y s t f g refl
+-- ---- checks
+-- a check asks nothing, and what it finds has one status and one line
+one_check : ((bytes : List ℕ) (c d : Checked) → Finds bytes c → Finds bytes d → c ≡ d) → (bytes a b : List ℕ) (s t : ℕ) (x y : List ℕ)
+    → IsCheck bytes a s x → IsCheck bytes b t y → IsOneAnswer a b s t x y
+one_check one bytes a b s t x y f g =
+    let same : f.checked ≡ g.checked = one bytes f.checked g.checked f.finds g.finds in
+    let status : s ≡ t = f.status_is ∙ (ap found_status same ∙ sym g.status_is) in record {
+      queries = f.asked_is ∙ sym g.asked_is;
+      without = λ _. (status, f.text_is ∙ (ap found same ∙ sym g.text_is));
+      apart = λ zero one. absurd (omega (arith, status, zero, one));
+    }
 
 -- ---- bytes
 module _ (problem : (bytes : List ℕ) (p q : Problem) → IsProblem bytes p → IsProblem bytes q → p ≡ q)
     (refusal : (bytes : List ℕ) (r s : Refused) → IsRefused bytes r → IsRefused bytes s → r ≡ s)
-    (apart : (bytes : List ℕ) (p : Problem) (r : Refused) → IsProblem bytes p → IsRefused bytes r → ⊥) where
+    (apart : (bytes : List ℕ) (p : Problem) (r : Refused) → IsProblem bytes p → IsRefused bytes r → ⊥)
+    (finding : (bytes : List ℕ) (c d : Checked) → Finds bytes c → Finds bytes d → c ≡ d) (spelling : OneSpelling) where
   one_reading : (Due : Problem → List ℕ → ℕ → List ℕ → Type 0)
       → ((p : Problem) (a b : List ℕ) (s t : ℕ) (x y : List ℕ) → Due p a s x → Due p b t y → IsOneAnswer a b s t x y)
       → (bytes a b : List ℕ) (s t : ℕ) (x y : List ℕ) → IsReading Due bytes a s x → IsReading Due bytes b t y → IsOneAnswer a b s t x y
@@ -113,9 +130,9 @@ module _ (problem : (bytes : List ℕ) (p q : Problem) → IsProblem bytes p →
 
   one_in : (m : Mode) (o : Options) (bytes a b : List ℕ) (s t : ℕ) (x y : List ℕ) → IsDueIn m o bytes a s x → IsDueIn m o bytes b t y → IsOneAnswer a b s t x y
   one_in Prove o bytes a b s t x y f g =
-      one_limited bytes (IsReading (IsProof o) bytes) a b s t x y (one_reading (IsProof o) (one_proof o) bytes a b s t x y) f g
+      one_limited bytes (IsReading (IsProof o) bytes) a b s t x y (one_reading (IsProof o) (one_proof spelling o) bytes a b s t x y) f g
   one_in Check o bytes a b s t x y f g =
-      one_limited bytes (IsReading IsCheck (before_answer true bytes)) a b s t x y (one_reading IsCheck one_check (before_answer true bytes) a b s t x y) f g
+      one_limited bytes (IsCheck bytes) a b s t x y (one_check finding bytes a b s t x y) f g
   one_in (Make number) o bytes a b s t x y f g = absurd f
 
   pub one_due : (o : Options) (bytes a b : List ℕ) (s t : ℕ) (x y : List ℕ) → IsDueFor o bytes a s x → IsDueFor o bytes b t y → IsOneAnswer a b s t x y

@@ -20,8 +20,10 @@ use Rattle.arithmetic_answers.specs.declared.deciding.Decision.{Decision}
 use Rattle.arithmetic_answers.specs.declared.deciding.Decision.TheVariants.{EmptyClause, TooWide, Refuted, Satisfied, Unknown}
 use Rattle.arithmetic_answers.specs.Decisions.{Decides, first_wide, pool_of, queries_of}
 use Rattle.arithmetic_answers.specs.Texts.{Tells}
-use Rattle.beagle_top.specs.Sections.{before_answer}
-use Rattle.beagle_top.specs.Texts.{too_long, not_built, refused, too_many}
+use Rattle.proof_check.specs.declared.checked.Checked.{Checked}
+use Rattle.proof_check.specs.declared.checked.Checked.TheVariants.{Faulty, TooMany, SaturatedList, BadText, RefusedStep, Verified}
+use Rattle.proof_check.specs.Checks.{Finds}
+use Rattle.beagle_top.specs.Texts.{too_long, not_built, refused, too_many, found}
 
 -- the most bytes that a problem may have
 abbrev pub input_limit : ℕ
@@ -60,16 +62,28 @@ pub data IsProof (o : Options) (p : Problem) (asked : List ℕ) (status : ℕ) (
       → Decides (clauses_of p o.ordinary) o.judge_steps d → asked ≡ queries_of d → status ≡ status_of d
       → Tells o.ordinary (is_some p.conjecture) (clauses_of p o.ordinary) d text → IsProof o p asked status text
 
--- What is due where an answer to a problem is to be checked: the refusal of too many clauses; else that of what isn't built.
-pub data IsCheck (p : Problem) (asked : List ℕ) (status : ℕ) (text : List ℕ) : Type 0 where
-  crowded : max_clauses < count_of p → Refuses (too_many (saturated (count_of p))) asked status text → IsCheck p asked status text
-  unbuilt : count_of p ≤ max_clauses → Refuses not_built asked status text → IsCheck p asked status text
-
 -- ---- what is due for bytes
 -- what is due for the bytes of a problem: the refusal of the first fault, or what is due for the problem that they mean
 pub data IsReading (Due : Problem → List ℕ → ℕ → List ℕ → Type 0) (bytes : List ℕ) (asked : List ℕ) (status : ℕ) (text : List ℕ) : Type 0 where
   fault : (r : Refused) → IsRefused bytes r → Refuses (refused r) asked status text → IsReading Due bytes asked status text
   read : (p : Problem) → IsProblem bytes p → Due p asked status text → IsReading Due bytes asked status text
+
+-- the status that goes with what a check finds
+abbrev pub found_status : Checked → ℕ
+found_status (Faulty r) = 3
+found_status (TooMany count) = 3
+found_status SaturatedList = 3
+found_status (BadText at) = 8
+found_status (RefusedStep step) = 8
+found_status Verified = 0
+
+-- What is due where the answer behind the problem of the bytes is to be checked: the status and the line of what the check finds.
+pub record IsCheck (bytes : List ℕ) (asked : List ℕ) (status : ℕ) (text : List ℕ) : Type 0 where
+  pub checked : Checked
+  pub finds : Finds bytes checked
+  pub asked_is : asked ≡ []
+  pub status_is : status ≡ found_status checked
+  pub text_is : text ≡ found checked
 
 -- what is due for bytes: the refusal of too many, or what is due for those within the limit
 abbrev pub Limited : List ℕ → (List ℕ → ℕ → List ℕ → Type 0) → List ℕ → ℕ → List ℕ → Type 0
@@ -82,7 +96,7 @@ Proves o bytes = Limited bytes (IsReading (IsProof o) bytes)
 
 -- what is due where the answer behind a problem is to be checked
 abbrev pub Checks : List ℕ → List ℕ → ℕ → List ℕ → Type 0
-Checks bytes = Limited bytes (IsReading IsCheck (before_answer true bytes))
+Checks bytes = Limited bytes (IsCheck bytes)
 
 -- the job is to make a problem, which reads nothing
 abbrev pub is_make : Mode → Bool
@@ -98,6 +112,10 @@ IsDueIn (Make number) o bytes = λ asked status text. ⊥
 -- what is due for the options' job
 abbrev pub IsDueFor : Options → List ℕ → List ℕ → ℕ → List ℕ → Type 0
 IsDueFor o = IsDueIn o.mode o
+
+-- the options of a check for which no words were given: the defaults, and what it does
+abbrev pub check_options : Options
+check_options = record { workers = 2; turns = 5000; judge_steps = 200000; ordinary = false; mode = Check }
 
 -- ---- problems that are decided
 -- The bytes are a problem of background clauses whose pool is formed within the range, and the three measures of this pool are within
@@ -147,10 +165,14 @@ pub record EndsBy (Due : List ℕ → ℕ → List ℕ → Type 0) (before after
 abbrev pub IsSilent : ℕ → Type 0
 IsSilent ended = (ended ≡ 5) ⊎ (ended ≡ 7)
 
--- the statuses that go with a text that is due for bytes
+-- the statuses that go with a text that is due for bytes whose problem is to be proved
 abbrev pub IsDue : ℕ → Type 0
 IsDue status = (status ≡ 0) ⊎ ((status ≡ 1) ⊎ ((status ≡ 2) ⊎ (status ≡ 3)))
 
 -- the statuses of a run
 abbrev pub IsStatus : ℕ → Type 0
-IsStatus ended = Contains (0 ∷ 1 ∷ 2 ∷ 3 ∷ 4 ∷ 5 ∷ 6 ∷ 7 ∷ []) ended
+IsStatus ended = Contains (0 ∷ 1 ∷ 2 ∷ 3 ∷ 4 ∷ 5 ∷ 6 ∷ 7 ∷ 8 ∷ []) ended
+
+-- those of a check
+abbrev pub IsCheckStatus : ℕ → Type 0
+IsCheckStatus ended = Contains (0 ∷ 3 ∷ 5 ∷ 6 ∷ 7 ∷ 8 ∷ []) ended

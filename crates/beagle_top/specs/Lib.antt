@@ -1,7 +1,5 @@
-pub mod Sections
 pub mod Texts
 pub mod Answer
 pub mod Answered
 pub mod Asking
 pub mod Meaning
-pub mod Rows

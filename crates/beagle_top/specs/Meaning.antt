@@ -1,5 +1,6 @@
 -- What an answer says of the problem that was read.
-use Rattle.std.specs.Prelude.{◌≡◌, ◌≤◌, ℕ, ℤ, true, List, [], length}
+use Rattle.std.specs.Prelude.{◌≡◌, ◌≤◌, ℕ, ℤ, true, List, [], ◌++◌, length, Option}
+use Rattle.std.specs.Io.KnownBytes.{Appends}
 use Rattle.command_line.specs.declared.options.Options.{Options}
 use Rattle.formula_base.specs.declared.problems.Problem.{Problem}
 use Rattle.tff_reader.specs.Answer.{IsProblem}
@@ -10,6 +11,8 @@ use Rattle.bg_view.specs.Unknowns.{symbols_of}
 use Rattle.bg_view.specs.Truth.{AreContradictory, AreTrueAt}
 use Rattle.arithmetic_answers.specs.Decisions.{HasWide, IsPast, value_of}
 use Rattle.arithmetic_answers.specs.Texts.{saturated_list, unknown_line, wide_line}
+use Rattle.proof_check.specs.Sections.{ends_line, problem_part}
+use Rattle.proof_check.specs.Checks.{IsProved}
 use Rattle.beagle_top.specs.Answer.{are_all_background, clauses_of, input_limit}
 
 -- the bytes are this problem, with clauses of arithmetic alone
@@ -48,6 +51,22 @@ pub record IsPastMeasure (o : Options) (bytes text : List ℕ) : Type 0 where
   pub why : Why
   pub past : IsPast (clauses_of problem o.ordinary) o.judge_steps why
   pub printed : text ≡ unknown_line why
+
+-- the bytes, within the limit, are a problem and behind it a derivation of falsehood from its clauses
+pub record IsVerified (bytes : List ℕ) : Type 0 where
+  pub within : length bytes ≤ input_limit
+  pub proved : IsProved bytes
+
+-- an answer may stand behind the bytes: none of their lines begins as an answer does, and they end with a line or are none
+pub record IsCheckable (bytes : List ℕ) : Type 0 where
+  pub no_answer : problem_part bytes ≡ bytes
+  pub whole_lines : ends_line bytes ≡ true
+
+-- the sink has taken a text that is verified behind the bytes, where both are within the limit together
+pub record WrittenChecks (bytes : List ℕ) (before after : Option (List ℕ)) : Type 0 where
+  pub text : List ℕ
+  pub taken : Appends before after text
+  pub verified : length (bytes ++ text) ≤ input_limit → IsVerified (bytes ++ text)
 
 -- the line of an operation, with no query
 pub record IsWideLine (at : WideAt) (asked : List ℕ) (status : ℕ) (text : List ℕ) : Type 0 where

@@ -1,26 +1,25 @@
 //! The answer to the bytes of a problem.
 
-ghost use Rattle.std.specs.Prelude.{◌≡◌, [], true, IfOk, IsTrue};
+ghost use Rattle.std.specs.Prelude.{◌≡◌, [], IfOk, IsTrue};
 ghost use Rattle.formula_base.specs.Typing.{IsWellTyped};
 ghost use Rattle.normal_form.specs.Clauses.{AreWellSorted};
 ghost use Rattle.bg_view.specs.Background.{are_background};
 ghost use Rattle.arithmetic_answers.specs.Decisions.{Decides, queries_of};
 ghost use Rattle.arithmetic_answers.specs.Texts.{Tells};
 ghost use Rattle.beagle_top.specs.Texts as text;
-ghost use Rattle.beagle_top.specs.Sections as section;
 ghost use Rattle.beagle_top.specs.Answer as spec;
 ghost use Rattle.beagle_top.specs.Answer.{IsCheck, IsDue, IsProof, IsReading};
 ghost use Rattle.beagle_top.specs.Answered.{IsAnswered, IsDecidedBy};
 ghost use Rattle.beagle_top.specs.Asking.{MayAsk};
 
-use crate::sections::before_answer;
-use crate::statuses::{GAVE_UP, PROVED, REFUSED, SATURATED};
-use crate::texts::{not_built, refused, too_many};
+use crate::statuses::{GAVE_UP, PROOF_REFUSED, PROVED, REFUSED, SATURATED};
+use crate::texts::{found as found_text, not_built, refused, too_many};
 use arithmetic_answers::{Decision, answer_text, decide};
 use command_line::Options;
 use formula_base::Problem;
 use judge_base::Judge;
-use normal_form::{ClausesError, clauses, count};
+use normal_form::{ClausesError, clauses};
+use proof_check::Checked;
 use std::alloc::{AllocError, Global};
 use term_base::{Prepared, is_background};
 use tff_reader::{ReadError, Refused, read};
@@ -31,9 +30,6 @@ pub struct Answer {
     pub status: u8,
     pub text: Vec<u8>,
 }
-
-/// The most clauses that a problem may have.
-const MAX_CLAUSES: u64 = 100_000;
 
 fn status_of(decision: &Decision) -> u8
     ensures status { result ≡ spec.status_of decision.now }
@@ -65,23 +61,27 @@ fn decided(
     alloc: Global,
     options: &Options,
     has_conjecture: bool,
-    prepared: &Prepared,
+    prepared: Prepared,
     judge: &mut dyn Judge,
 ) -> Result<Answer, AllocError>
-    requires { IsTrue (are_background prepared.now.symbols prepared.now.clauses) }
+    requires { IsTrue (are_background prepared.symbols prepared.clauses) }
     ensures status { IfOk result (λ a. IsDue a.status) }
-    ensures due { IfOk result (λ a. IsDecidedBy options.now has_conjecture prepared.now.clauses
+    ensures due { IfOk result (λ a. IsDecidedBy options.now has_conjecture prepared.clauses
         (numbers judge.old) (numbers judge.new) a.status a.text.items) }
     ensures asked { MayAsk (numbers judge.old) (numbers judge.new) }
 {
     let clauses = prepared.clauses.as_slice();
     let symbols = prepared.symbols.as_slice();
     let decision = decide(alloc, symbols, clauses, judge, options.judge_steps)?;
-    let text = answer_text(alloc, options.ordinary, has_conjecture, clauses, &decision)?;
-    Ok(Answer {
-        status: status_of(&decision),
-        text,
-    })
+    let status = status_of(&decision);
+    let text = answer_text(
+        alloc,
+        options.ordinary,
+        has_conjecture,
+        prepared.clauses,
+        decision,
+    )?;
+    Ok(Answer { status, text })
 }
 
 fn unbuilt(alloc: Global) -> Result<Answer, AllocError>
@@ -134,7 +134,7 @@ fn proof_of(
             alloc,
             options,
             problem.conjecture.is_some(),
-            &prepared,
+            prepared,
             judge,
         )
     } else {
@@ -161,28 +161,23 @@ pub fn proof(
     }
 }
 
-// The answer where the answer to a problem is to be checked.
-fn check_of(alloc: Global, problem: &Problem) -> Result<Answer, AllocError>
-    ensures status { IfOk result (λ a. IsDue a.status) }
-    ensures due { IfOk result (λ a. IsCheck problem.now [] a.status a.text.items) }
+fn status_found(checked: &Checked) -> u8
+    ensures { result ≡ spec.found_status checked.now }
 {
-    let count = count(problem);
-    if count > MAX_CLAUSES {
-        many(alloc, count)
-    } else {
-        unbuilt(alloc)
+    match checked {
+        Checked::Faulty(_) | Checked::TooMany(_) | Checked::SaturatedList => REFUSED,
+        Checked::BadText(_) | Checked::RefusedStep(_) => PROOF_REFUSED,
+        Checked::Verified => PROVED,
     }
 }
 
 /// The answer to bytes of which the answer behind a problem is to be checked.
 pub fn check(alloc: Global, bytes: &[u8]) -> Result<Answer, AllocError>
-    ensures status { IfOk result (λ a. IsDue a.status) }
-    ensures due { IfOk result (λ a. IsReading IsCheck (section.before_answer true bytes.now) []
-        a.status a.text.items) }
+    ensures { IfOk result (λ a. IsCheck bytes.now [] a.status a.text.items) }
 {
-    match read(alloc, before_answer(bytes)) {
-        Ok(problem) => check_of(alloc, &problem),
-        Err(ReadError::Refused(fault)) => faulty(alloc, &fault),
-        Err(ReadError::Memory) => Err(AllocError),
-    }
+    let found = proof_check::check(alloc, bytes)?;
+    Ok(Answer {
+        status: status_found(&found),
+        text: found_text(alloc, &found)?,
+    })
 }

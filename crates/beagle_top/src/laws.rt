@@ -1,15 +1,19 @@
 //! What the definition of answers implies.
 
-ghost use Rattle.std.specs.Prelude.{◌≡◌, ℕ, [], ◌∷◌, List};
+ghost use Rattle.std.specs.Prelude.{◌≡◌, ◌≤◌, ◌↔◌, ℕ, [], ◌∷◌, ◌++◌, List, length};
 ghost use Rattle.command_line.specs.declared.options.Options.{Options};
 ghost use Rattle.formula_base.specs.declared.problems.Problem.{Problem};
 ghost use Rattle.bg_view.specs.declared.viewing.WideAt.{WideAt};
 ghost use Rattle.arithmetic_answers.specs.Decisions.{HasWide};
-ghost use Rattle.beagle_top.specs.Answer.{IsDecidable, IsDecided, IsDueFor, Proves, clauses_of};
-ghost use Rattle.beagle_top.specs.Meaning.{IsArithmetic, IsContradictory, IsOneAnswer, IsPastMeasure, IsPastRange, IsTrueAtValues, IsWideLine};
-ghost use Rattle.beagle_top.specs.Rows as rows;
+ghost use Rattle.beagle_top.specs.Answer.{Checks, IsDecidable, IsDecided, IsDueFor, Proves, clauses_of, input_limit};
+ghost use Rattle.beagle_top.specs.Meaning.{IsArithmetic, IsCheckable, IsContradictory, IsOneAnswer, IsPastMeasure, IsPastRange, IsTrueAtValues, IsVerified, IsWideLine};
+ghost use Rattle.beagle_top.specs.Texts.{verified};
 
-use tff_reader::one_answer as one_reading;
+use arithmetic_answers::{empty_clause_derives, refutation_derives};
+use normal_form::{clauses_are_well_sorted, clauses_have_known_symbols};
+use proof_check::{one_finding, proof_behind, verified_exactly};
+use proof_text::laws::one_spelling_with_status;
+use tff_reader::{one_answer as one_reading, problems_are_well_typed};
 
 /// For given options and bytes the queries are determined; where there is none, the status and the text are; and not both a derivation
 /// and a saturated list are due, whatever the judge answers.
@@ -18,6 +22,8 @@ pub fn one_answer()
         → IsDueFor o bytes asked s x → IsDueFor o bytes also t y → IsOneAnswer asked also s t x y }
 {
     one_reading();
+    one_finding();
+    one_spelling_with_status();
 }
 
 /// Where a derivation is due, the bytes are a problem whose clauses are all of arithmetic, and at no integers for their
@@ -57,8 +63,26 @@ pub fn decidable_is_decided()
     one_reading();
 }
 
-/// Rows of the definitions, worked out: where an answer behind a problem is cut off.
-pub fn definitions_give_rows()
-    ensures cut_off { rows.CutOffAnswer }
-    ensures no_cut_inside { rows.NoCutInside }
-{}
+/// That a derivation is verified is due exactly where the bytes are within the limit, a problem without a fault and with at most 100,000 clauses,
+/// and behind it the spelling of a derivation of falsehood from its clauses, whose status is Theorem exactly where there is a
+/// conjecture; it has a text of its own.
+pub fn verified_where_proved()
+    ensures status { (bytes asked : List ℕ) (s : ℕ) (text : List ℕ) → Checks bytes asked s text → (s ≡ 0) ↔ IsVerified bytes }
+    ensures text { (bytes asked : List ℕ) (s : ℕ) (text : List ℕ) → Checks bytes asked s text → (s ≡ 0) ↔ (text ≡ verified) }
+{
+    verified_exactly();
+}
+
+/// A derivation that is due for the bytes of a problem is verified behind them: where none of their lines begins as an answer does, they end with
+/// a line or are none, and both are within the limit together.
+pub fn printed_checks()
+    ensures { (o : Options) (bytes asked text : List ℕ) → Proves o bytes asked 0 text → IsCheckable bytes
+        → length (bytes ++ text) ≤ input_limit → IsVerified (bytes ++ text) }
+{
+    proof_behind();
+    problems_are_well_typed();
+    clauses_are_well_sorted();
+    clauses_have_known_symbols();
+    empty_clause_derives();
+    refutation_derives();
+}

@@ -2,8 +2,9 @@
 #![tactic(auto)]
 
 mod answers;
+#[cfg(test)]
+mod check_tests;
 mod laws;
-mod sections;
 pub mod statuses;
 #[cfg(test)]
 mod tests;
@@ -12,7 +13,7 @@ mod top;
 
 pub use command_line::{Mode, Options};
 pub use laws::{
-    decidable_is_decided, definitions_give_rows, one_answer, refuted_is_contradictory,
-    saturated_is_true, unknown_where_past, wide_where_no_pool,
+    decidable_is_decided, one_answer, printed_checks, refuted_is_contradictory, saturated_is_true,
+    unknown_where_past, verified_where_proved, wide_where_no_pool,
 };
-pub use top::{Ended, INPUT_LIMIT, beagle, prove_alone};
+pub use top::{Ended, INPUT_LIMIT, beagle, check_bytes, prove_alone};

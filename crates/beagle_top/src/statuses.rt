@@ -1,6 +1,6 @@
 //! The exit statuses.
 
-/// A refutation was written.
+/// A refutation was written, or one was verified.
 pub const PROVED: u8 = 0;
 /// A saturated list was written.
 pub const SATURATED: u8 = 1;
@@ -16,3 +16,5 @@ pub const READ_FAULT: u8 = 5;
 pub const WRITE_FAULT: u8 = 6;
 /// Memory ran out.
 pub const MEMORY: u8 = 7;
+/// A derivation was refused by a check.
+pub const PROOF_REFUSED: u8 = 8;

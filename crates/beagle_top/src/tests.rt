@@ -306,11 +306,28 @@ fn refuses_names(rt: HostRuntime) -> Result<(), Fail> {
 fn not_built(rt: HostRuntime) -> Result<(), Fail> {
     let alloc = rt.alloc();
     assert!(rt; writes(alloc, "", "tff(a,axiom,p).", 3, NOT_BUILT)?);
-    assert!(rt; writes(alloc, "--check", "tff(a,axiom,$less(3,2)).", 3, NOT_BUILT)?);
-    let checked =
-        "tff(a,axiom,$less(3,2)).\n% SZS status Unsatisfiable for stdin\nderivation 1 abstraction\n";
-    assert!(rt; writes(alloc, "--check", checked, 3, NOT_BUILT)?);
-    assert!(rt; writes(alloc, "", checked, 3, "% refused: Syntax at 62\n")?);
+    let list = "tff(a,axiom,p).\n% Saturated for stdin\n";
+    assert!(rt; writes(alloc, "--check", list, 3, NOT_BUILT)?);
+    Ok(())
+}
+
+// What is checked is what stands behind the problem.
+#[test]
+fn checks(rt: HostRuntime) -> Result<(), Fail> {
+    let alloc = rt.alloc();
+    let mut text = String::from_str(alloc, "tff(a,axiom,$false).\n")?;
+    text.push_str(FALSE_AXIOM)?;
+    assert!(rt;
+        writes(
+            alloc,
+            "--check",
+            text.as_str(),
+            0,
+            "% verified derivation\n"
+        )?
+    );
+    assert!(rt; writes(alloc, "--check --turns 7", "", 8, "% bad text at 0\n")?);
+    assert!(rt; writes(alloc, "", text.as_str(), 3, "% refused: Syntax at 58\n")?);
     assert!(rt;
         writes(
             alloc,
@@ -332,16 +349,11 @@ fn too_many(rt: HostRuntime) -> Result<(), Fail> {
         let member = format!(in alloc; "|(p{n}&q{n})")?;
         text.push_str(member.as_str())?;
     }
-    text.push_str(").")?;
-    assert!(rt;
-        writes(
-            alloc,
-            "",
-            text.as_str(),
-            3,
-            "% refused: TooManyClauses 131072\n"
-        )?
-    );
+    text.push_str(").\n")?;
+    let refused = "% refused: TooManyClauses 131072\n";
+    assert!(rt; writes(alloc, "", text.as_str(), 3, refused)?);
+    text.push_str("% SZS status x\n")?;
+    assert!(rt; writes(alloc, "--check", text.as_str(), 3, refused)?);
     Ok(())
 }
 
@@ -430,12 +442,16 @@ fn failing_ends(rt: HostRuntime) -> Result<(), Fail> {
 #[test]
 fn limit(rt: HostRuntime) -> Result<(), Fail> {
     let alloc = rt.alloc();
-    let rows = [(0, 1, NONE_KEPT), (1, 3, "% refused: TooLong\n")];
-    for (more, status, written) in rows {
+    let rows = [
+        ("", 0, 1, NONE_KEPT),
+        ("", 1, 3, "% refused: TooLong\n"),
+        ("--check", 1, 3, "% refused: TooLong\n"),
+    ];
+    for (words, more, status, written) in rows {
         let bytes = vec![in alloc; b' '; 16_777_216 + more]?;
         let mut source = MemorySource::new(bytes, Vec::new(alloc));
         let mut sink = MemorySink::new(alloc, 1000, 1000, Vec::new(alloc))?;
-        assert_eq!(rt; run(alloc, "", &mut source, &mut sink)?.0, status);
+        assert_eq!(rt; run(alloc, words, &mut source, &mut sink)?.0, status);
         assert_eq!(rt; sink.bytes(), written.as_bytes());
     }
     Ok(())

@@ -1,4 +1,4 @@
-use Rattle.std.proofs.Common.{◌≡◌, None, Some, Option, ℕ, rules}
+use Rattle.std.proofs.Common.{◌≡◌, None, Some, rules}
 use Rattle.std.proofs.lemmas.Result.{IfOk-weaker}
 use Rattle.arithmetic_answers.specs.Decisions.{first_empty}
 use Rattle.arithmetic_answers.proofs.Judged.{Means, of_verdict, verdict_has_text}

@@ -14,8 +14,8 @@ returns-then-are_all_background-clause-due g c =
     c.in-Ok.ensures.within c.in-Ok.ensures.prepared all c.is_some.ensures h)
     c.decided.ensures.due
 
-pub returns-clause-due : goal.returns-clause-due
-returns-clause-due g c =
+pub returns-else-are_all_background-clause-due : goal.returns-else-are_all_background-clause-due
+returns-else-are_all_background-clause-due g c =
     let other : are_all_background c.in-Ok.prepared ≡ false = search rules in
     IfOk-weaker c.unbuilt.result _ _
     (λ a h.

@@ -5,6 +5,7 @@ use Rattle.beagle_top.specs.Answer.{Ends}
 use Rattle.beagle_top.specs.Texts.{too_long}
 use Rattle.beagle_top.proofs.Ending.{nothing_behind}
 use Rattle.beagle_top.proofs.Refusals.{first_of_two}
+use Rattle.beagle_top.proofs.StatusLemmas.{memory, read_fault}
 use Rattle.beagle_top.proofs.top.proved.Goals as goal
 
 pub returns-in-Err-TooLong-clause-answer : goal.returns-in-Err-TooLong-clause-answer
@@ -23,3 +24,9 @@ returns-in-Err-TooLong-clause-answer w c = λ loud.
 
 pub returns-in-Ok-clause-refused : goal.returns-in-Ok-clause-refused
 returns-in-Ok-clause-refused w c = first_of_two c.proved_bytes.result _ c.proved_bytes.ensures.refused c.proved_bytes.ensures.no_read_fault
+
+pub returns-in-Err-Failed-clause-status : goal.returns-in-Err-Failed-clause-status
+returns-in-Err-Failed-clause-status w c = read_fault
+
+pub returns-in-Err-Memory-clause-status : goal.returns-in-Err-Memory-clause-status
+returns-in-Err-Memory-clause-status w c = memory

@@ -1,7 +1,7 @@
 use Rattle.std.proofs.Common.{◌≡◌, ℕ, List, rules, subst}
 use Rattle.beagle_top.specs.Answer.{Ends, IsProof, IsReading}
 use Rattle.beagle_top.proofs.Ending.{ended, within}
-use Rattle.beagle_top.proofs.StatusLemmas.{by_due}
+use Rattle.beagle_top.proofs.StatusLemmas.{by_due, memory, not_eight}
 use Rattle.beagle_top.proofs.Refusals.{refusal_asks_nothing}
 use Rattle.beagle_top.proofs.top.proved_bytes.Goals as goal
 
@@ -21,3 +21,9 @@ pub returns-in-Ok-clause-refused : goal.returns-in-Ok-clause-refused
 returns-in-Ok-clause-refused w c =
     refusal_asks_nothing c.args.options.now c.args.bytes.now _ _ c.in-Ok.answer.status c.in-Ok.answer.text.items c.written.result _ c.in-Ok.ensures.due
     c.written.ensures.fault
+
+pub returns-in-Ok-clause-no_refused_proof : goal.returns-in-Ok-clause-no_refused_proof
+returns-in-Ok-clause-no_refused_proof w c = not_eight c.in-Ok.answer.status c.written.result _ c.in-Ok.ensures.status c.written.ensures.fault
+
+pub returns-in-Err-clause-status : goal.returns-in-Err-clause-status
+returns-in-Err-clause-status w c = memory

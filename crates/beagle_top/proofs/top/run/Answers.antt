@@ -4,7 +4,7 @@ use Rattle.command_line.specs.declared.options.Mode.TheVariants.{Check}
 use Rattle.beagle_top.specs.Answer.{Ends}
 use Rattle.beagle_top.specs.Texts.{not_built}
 use Rattle.beagle_top.proofs.Ending.{checks_so}
-use Rattle.beagle_top.proofs.StatusLemmas.{by_due}
+use Rattle.beagle_top.proofs.StatusLemmas.{by_due, not_four, of_check}
 use Rattle.beagle_top.proofs.top.run.Goals as goal
 
 pub returns-in-Make-clause-status : goal.returns-in-Make-clause-status
@@ -19,4 +19,10 @@ returns-in-Make-clause-made w c = λ make.
 pub returns-in-Check-clause-answer : goal.returns-in-Check-clause-answer
 returns-in-Check-clause-answer w c = λ reads loud.
     let is : c.args.options.now.mode ≡ Check = search rules in
-    IfSome_then (w.S.Source.left c.args.source.now) (c.checked.ensures.answer loud) (λ bytes e. checks_so c.args.options.now bytes _ _ _ c.checked.result is e)
+    IfSome_then (w.S.Source.left c.args.source.now) (c.check_bytes.ensures.answer loud) (λ bytes e. checks_so c.args.options.now bytes _ _ _ c.check_bytes.result.status is e)
+
+pub returns-in-Check-clause-status : goal.returns-in-Check-clause-status
+returns-in-Check-clause-status w c = of_check c.check_bytes.result.status c.check_bytes.ensures.status
+
+pub returns-in-Check-clause-no_usage : goal.returns-in-Check-clause-no_usage
+returns-in-Check-clause-no_usage w c = not_four c.check_bytes.result.status c.check_bytes.ensures.status
