@@ -5,8 +5,6 @@ mod conditions;
 pub mod laws;
 mod linear;
 mod literals;
-#[cfg(test)]
-mod tests;
 mod unknowns;
 mod viewing;
 mod views;

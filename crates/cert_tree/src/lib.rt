@@ -7,17 +7,11 @@ mod clauses;
 pub mod completing;
 mod holding;
 mod laws;
-#[cfg(test)]
-mod node_tests;
 pub mod rows;
 mod standing;
 pub mod sums;
 pub mod test_points;
-#[cfg(test)]
-mod tests;
 mod used;
-#[cfg(test)]
-mod used_tests;
 pub mod variables;
 
 pub use certs::{Cert, Row, Tree};

@@ -7,8 +7,6 @@ mod eliminating;
 mod making;
 mod searching;
 mod sharing;
-#[cfg(test)]
-mod tests;
 mod valuing;
 
 pub use deciding::decide;

@@ -4,5 +4,3 @@
 pub mod completing;
 pub mod counting;
 pub mod grounding;
-#[cfg(test)]
-mod tests;

@@ -6,7 +6,5 @@ mod filling;
 mod next;
 mod pins;
 mod scanning;
-#[cfg(test)]
-mod tests;
 
 pub use next::next_term;

@@ -14,8 +14,6 @@ mod occurrences;
 mod places;
 mod resolving;
 mod superposing;
-#[cfg(test)]
-mod tests;
 mod unifying;
 
 pub use concluding::conclude;

@@ -2,8 +2,6 @@
 #![tactic(auto)]
 
 mod judges;
-#[cfg(test)]
-mod tests;
 mod verdicts;
 
 pub use judges::{Judge, MAX_DEPTH};

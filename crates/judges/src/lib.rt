@@ -2,7 +2,5 @@
 #![tactic(auto)]
 
 mod cooper_judge;
-#[cfg(test)]
-mod tests;
 
 pub use cooper_judge::CooperJudge;

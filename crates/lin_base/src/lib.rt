@@ -9,8 +9,6 @@ pub mod laws;
 mod numbers;
 mod replacing;
 mod sums;
-#[cfg(test)]
-mod tests;
 mod wides;
 
 pub use changes::{above, add, add_number, add_scaled, negate, scale};

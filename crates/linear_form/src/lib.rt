@@ -9,8 +9,6 @@ mod forms;
 mod linear_forms;
 mod literals;
 mod normal;
-#[cfg(test)]
-mod tests;
 
 pub use collecting::summands;
 pub use linear_forms::{LinearForm, linear};

@@ -3,8 +3,6 @@
 
 mod board;
 mod queries;
-#[cfg(test)]
-mod tests;
 
 pub use board::Board;
 pub use queries::{Asked, Mark, Posted, Stamp};

@@ -9,8 +9,6 @@ mod literals;
 mod parts;
 mod simplifying;
 mod symbols;
-#[cfg(test)]
-mod tests;
 
 pub use abstractions::is_abstraction;
 pub use inferences::{factored, resolved, superposed};

@@ -1,0 +1,25 @@
+//! Rows of arithmetic: sums, facts, views of clauses, certificates, values, eliminations and decisions. Each states its
+//! answer, which was worked out by hand.
+#![tactic(auto)]
+
+mod certificates;
+mod decisions;
+mod facts;
+mod numbers;
+mod printing;
+mod rows;
+mod sums;
+mod texts;
+mod views;
+
+use rows::Rows;
+use std::io::{self, Write};
+
+fn main(rt: HostRuntime) -> io::Result<()> {
+    let alloc = rt.alloc();
+    let text = io::read_to_string(alloc, rt.stdin())?;
+    match row_lines::report(alloc, &Rows, text.as_str()) {
+        Ok(told) => rt.stdout().write_all(told.as_slice()),
+        Err(_) => Err(io::ErrorKind::InvalidData.into()),
+    }
+}

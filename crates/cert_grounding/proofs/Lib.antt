@@ -1,4 +1,0 @@
-pub mod Metering
-pub mod Periods
-pub mod CompleteCounts
-pub mod GroundParts

@@ -1,3 +1,0 @@
-pub mod Metering
-pub mod Grounding
-pub mod Laws
