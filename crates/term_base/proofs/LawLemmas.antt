@@ -1,13 +1,9 @@
 -- The laws of substitutions, places and weights.
 use Rattle.std.proofs.Common.{◌≡◌, ◌≤◌, ℕ, zero, suc, true, false, ◌&&◌, not, List, [], ◌∷◌, map, inl, inr, refl, ap, sym, ◌∙◌, arith}
-use Rattle.std.proofs.lemmas.Bool.{not-false}
 use Rattle.std.proofs.lemmas.List.Sums.{sum_by-cons}
 use Rattle.std.specs.List.{sum}
 use Rattle.std.specs.Prelude.{Some, ◌+◌}
 use Rattle.std.specs.Option.{option_and_then, option_map_or}
-use Rattle.term_base.specs.declared.clauses.Clause.{Clause}
-use Rattle.term_base.specs.declared.clauses.Literal.{Literal}
-use Rattle.term_base.specs.declared.clauses.Literal.TheVariants.{Equal, Differ, AtMost}
 use Rattle.term_base.specs.declared.places.Place.{Place}
 use Rattle.term_base.specs.declared.places.Side.{Side}
 use Rattle.term_base.specs.declared.places.Side.TheVariants.{Left, Right}
@@ -21,51 +17,21 @@ use Rattle.term_base.specs.declared.variables.Variable.{Variable}
 use Rattle.term_base.specs.Proper.{IsProper}
 use Rattle.term_base.specs.Same.{same_sort, same_kind}
 use Rattle.term_base.specs.Trees.{Tree, Trees, var, node, none, more, trees, tree}
-use Rattle.term_base.specs.TreeBack.{tree_injective}
 use Rattle.term_base.specs.TreeLemmas.{true_or_false, both_ways, or-false}
 use Rattle.term_base.specs.TreeOf.{tree-Var, tree-Num, tree-True, tree-Sum, tree-Scale, tree-App}
 use Rattle.term_base.specs.TermFolds.{fold-Var, fold-Num, fold-True, fold-Sum, fold-Scale, fold-App}
 use Rattle.term_base.specs.TermInduction.{Each, term_induction}
 use Rattle.term_base.specs.Sorting.{sort, sorts}
-use Rattle.term_base.specs.Purity.{is_abstraction, foreground_head, foreground, any_foreground, ordinary, any_ordinary, foreign, any_foreign, IsPure}
-use Rattle.term_base.specs.Substitution.{put_in, put_all, Simple}
+use Rattle.term_base.specs.Purity.{is_abstraction, ordinary, any_ordinary, foreign, any_foreign, IsPure}
+use Rattle.term_base.specs.Substitution.{put_in, Simple}
+use Rattle.term_base.specs.SimpleSubst.{pure-put_in}
 use Rattle.term_base.specs.SubstLemmas.{sort-put_in}
-use Rattle.term_base.specs.Lits.{Lit, lit, lits, put_lit, put_clause, EachLit}
+use Rattle.term_base.specs.Lits.{Lit, put_lit, put_clause, EachLit}
 use Rattle.term_base.specs.LitLemmas.{first_of, at_path-put, put_at-put, named-put, with_side-put, item-put, changed-put}
 use Rattle.term_base.specs.Clauses.{are_sides, is_lit_sorted, is_well_sorted, is_background_tree, is_background}
 use Rattle.term_base.specs.Places.{named, with_side, item, changed, argument, with_argument, argument_number, child, with_child, at_path, put_child, put_at, tree_at, put_place, replaced}
 use Rattle.term_base.specs.Weight.{weight, weight_all}
 use Rattle.term_base.specs.Nodes.{nodes, nodes_step}
-
-module _ (signature : List Symbol) (s : Variable → Tree) (simple : Simple signature s) where
-  mutual
-    pure_foreground : (t : Tree) → foreground signature t ≡ false → ordinary t ≡ false → foreground signature (put_in s t) ≡ false
-    pure_foreground (var v) h k = (simple.pure v (not-false (is_abstraction v) k)).no_foreground
-    pure_foreground (node f xs) h k =
-        let two = or-false (foreground_head signature f) (any_foreground signature xs) h in
-        rw (two.0) (pure_any_foreground xs two.1 k)
-
-    pure_any_foreground : (xs : Trees) → any_foreground signature xs ≡ false → any_ordinary xs ≡ false → any_foreground signature (put_all s xs) ≡ false
-    pure_any_foreground none h k = refl
-    pure_any_foreground (more x xs) h k =
-        let fore = or-false (foreground signature x) (any_foreground signature xs) h in
-        let ord = or-false (ordinary x) (any_ordinary xs) k in
-        rw (pure_foreground x fore.0 ord.0) (pure_any_foreground xs fore.1 ord.1)
-
-  mutual
-    pure_ordinary : (t : Tree) → ordinary t ≡ false → ordinary (put_in s t) ≡ false
-    pure_ordinary (var v) k = (simple.pure v (not-false (is_abstraction v) k)).no_ordinary
-    pure_ordinary (node f xs) k = pure_any_ordinary xs k
-
-    pure_any_ordinary : (xs : Trees) → any_ordinary xs ≡ false → any_ordinary (put_all s xs) ≡ false
-    pure_any_ordinary none k = refl
-    pure_any_ordinary (more x xs) k =
-        let ord = or-false (ordinary x) (any_ordinary xs) k in
-        rw (pure_ordinary x ord.0) (pure_any_ordinary xs ord.1)
-
-  -- a simple substitution keeps Pure terms pure
-  pub pure-put_in : (t : Tree) → IsPure signature t → IsPure signature (put_in s t)
-  pure-put_in t p = record { no_foreground = pure_foreground t p.no_foreground p.no_ordinary; no_ordinary = pure_ordinary t p.no_ordinary }
 
 -- an abstraction variable has sort Int, so a tree without ordinary variables has variables of sort Int alone
 abstraction_is_Int : (k : Kind) (r : Sort) → IsProper k r → same_kind k Abstraction ≡ true → same_sort r Int ≡ true
@@ -223,33 +189,3 @@ nodes-weight = term_induction (λ t. nodes t ≤ weight (tree t))
     (λ a b in_a in_b. rw (fold-Sum ℕ nodes_step a b, tree-Sum a b) (omega arith))
     (λ k a in_a. rw (fold-Scale ℕ nodes_step k a, tree-Scale k a) (omega arith))
     (λ f ts all. let inner = nodes_all ts all in rw (fold-App ℕ nodes_step f ts, tree-App f ts) (omega arith))
-
--- a clause is known by its literals' trees
-lit_injective : (l m : Literal) → lit l ≡ lit m → l ≡ m
-lit_injective (Equal a b) (Equal c d) h = let one : a ≡ c = tree_injective a c (ap (λ (z : Lit). z.left) h) in let two : b ≡ d = tree_injective b d (ap (λ (z : Lit). z.right) h) in cc
-lit_injective (Differ a b) (Differ c d) h = let one : a ≡ c = tree_injective a c (ap (λ (z : Lit). z.left) h) in let two : b ≡ d = tree_injective b d (ap (λ (z : Lit). z.right) h) in cc
-lit_injective (AtMost a b) (AtMost c d) h = let one : a ≡ c = tree_injective a c (ap (λ (z : Lit). z.left) h) in let two : b ≡ d = tree_injective b d (ap (λ (z : Lit). z.right) h) in cc
-lit_injective _ _ h = let r = ap (λ (z : Lit). z.relation) h in cc
-
-lits_injective : (ls ms : List Literal) → map lit ls ≡ map lit ms → ls ≡ ms
-lits_injective [] [] h = refl
-lits_injective [] (m ∷ ms) h = cc
-lits_injective (l ∷ ls) [] h = cc
-lits_injective (l ∷ ls) (m ∷ ms) h =
-    let one : lit l ≡ lit m = cc in
-    let rest : map lit ls ≡ map lit ms = cc in
-    let same : l ≡ m = lit_injective l m one in
-    let others : ls ≡ ms = lits_injective ls ms rest in cc
-
-abbrev clause_of : List Literal → Clause
-clause_of ls = record { literals = ls }
-
-pub clause_injective : (c d : Clause) → lits c ≡ lits d → c ≡ d
-clause_injective c d h = ap clause_of (lits_injective c.literals d.literals h)
-
--- a simple substitution after a simple one
-pub simple-after : (signature : List Symbol) (r s : Variable → Tree) → Simple signature r → Simple signature s → Simple signature (λ v. put_in r (s v))
-simple-after signature r s after before = record {
-  sorted = λ v. sort-put_in signature r after.sorted (s v) ∙ before.sorted v;
-  pure = λ v is. pure-put_in signature r after (s v) (before.pure v is);
-}

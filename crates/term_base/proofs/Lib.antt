@@ -1,5 +1,6 @@
 pub mod Ascending
 pub mod BackgroundLemmas
+pub mod CoverLemmas
 pub mod DerivedOrder
 pub mod LawLemmas
 pub mod PurityLemmas

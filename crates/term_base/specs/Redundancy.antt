@@ -23,3 +23,8 @@ pub record Covers (signature : List Symbol) (e k : List Lit) : Type 0 where
   pub by : Variable → Tree
   pub simple : Simple signature by
   pub each : EachLit (λ l. Among l k ⊎ DiffersFromItself l) (put_clause by e)
+
+-- the same by a substitution that is given
+pub record CoversBy (signature : List Symbol) (s : Variable → Tree) (e k : List Lit) : Type 0 where
+  pub simple : Simple signature s
+  pub each : EachLit (λ l. Among l k ⊎ DiffersFromItself l) (put_clause s e)

@@ -46,6 +46,11 @@ abbrev pub Member : Tree → Trees → Type 0
 Member t none = ⊥
 Member t (more x xs) = (x ≡ t) ⊎ Member t xs
 
+-- whether a tree is a variable
+abbrev pub is_variable : Tree → Bool
+is_variable (var v) = true
+is_variable (node f xs) = false
+
 -- whether two heads are one
 abbrev pub same_head : Head → Head → Bool
 same_head truth truth = true

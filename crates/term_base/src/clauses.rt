@@ -1,6 +1,8 @@
 //! Literals and clauses.
 
-ghost use Rattle.std.specs.Prelude.{◌≡◌, ◌↔◌, IsTrue, IfOk};
+ghost use Rattle.std.specs.Prelude.{◌≡◌, ◌↔◌, IsTrue, IfOk, map};
+ghost use Rattle.term_base.specs.Lits.{lit, lits, at_most};
+ghost use Rattle.term_base.specs.LitTests as test;
 
 use crate::terms::Term;
 use sqlite_items::Items;
@@ -36,13 +38,55 @@ impl Literal {
     pub fn same(&self, other: &Literal) -> bool
         ensures { IsTrue result ↔ (self.now ≡ other.now) }
     {
+        *self == *other
+    }
+
+    /// Whether the literal is an inequality.
+    pub fn is_inequality(&self) -> bool
+        ensures test { result ≡ test.is_inequality (lit self.now).relation }
+        ensures exactly { IsTrue result ↔ ((lit self.now).relation ≡ at_most) }
+    {
+        match self {
+            Literal::Equal(_, _) => false,
+            Literal::Differ(_, _) => false,
+            Literal::AtMost(_, _) => true,
+        }
+    }
+
+    /// Whether the literal is `t != t`.
+    pub fn differs_from_itself(&self) -> bool
+        ensures { result ≡ test.differs_from_itself (lit self.now) }
+    {
+        match self {
+            Literal::Equal(_, _) => false,
+            Literal::Differ(s, t) => *s == *t,
+            Literal::AtMost(_, _) => false,
+        }
+    }
+}
+
+impl PartialEq for Literal {
+    ghost use Rattle.std.specs.Cmp.{partial_equiv_from_equiv};
+    ghost use Rattle.term_base.specs.SameLiteral.{same_literal, same_literal_equiv};
+
+    ghost eq = { same_literal };
+
+    ghost laws = { partial_equiv_from_equiv same_literal_equiv };
+
+    fn eq(&self, other: &Literal) -> bool {
         match (self, other) {
-            (Literal::Equal(a, b), Literal::Equal(c, d)) => a.same(c) && b.same(d),
-            (Literal::Differ(a, b), Literal::Differ(c, d)) => a.same(c) && b.same(d),
-            (Literal::AtMost(a, b), Literal::AtMost(c, d)) => a.same(c) && b.same(d),
+            (Literal::Equal(a, b), Literal::Equal(c, d)) => *a == *c && *b == *d,
+            (Literal::Differ(a, b), Literal::Differ(c, d)) => *a == *c && *b == *d,
+            (Literal::AtMost(a, b), Literal::AtMost(c, d)) => *a == *c && *b == *d,
             _ => false,
         }
     }
+}
+
+impl Eq for Literal {
+    ghost use Rattle.term_base.specs.SameLiteral.{same_literal_equiv};
+
+    ghost laws = { same_literal_equiv };
 }
 
 impl Clause {
@@ -59,20 +103,27 @@ impl Clause {
     pub fn same(&self, other: &Clause) -> bool
         ensures { IsTrue result ↔ (self.now ≡ other.now) }
     {
-        let mut rest = other.literals.as_slice();
-        for literal in self.literals.as_slice() {
-            match rest {
-                [] => return false,
-                [next, others @ ..] => {
-                    if !literal.same(next) {
-                        return false;
-                    }
-                    rest = others;
+        same_literals(self.literals.as_slice(), other.literals.as_slice())
+    }
+}
+
+/// Whether two lists have the same literals in the same order.
+pub fn same_literals(ls: &[Literal], ms: &[Literal]) -> bool
+    ensures { result ≡ test.same_lits (map lit ls.now) (map lit ms.now) }
+{
+    let mut rest = ms;
+    for l in ls {
+        match rest {
+            [] => return false,
+            [m, others @ ..] => {
+                if !(*l == *m) {
+                    return false;
                 }
+                rest = others;
             }
         }
-        rest.is_empty()
     }
+    rest.is_empty()
 }
 
 /// A list of literals that equals these.

@@ -65,13 +65,6 @@ pub fn place_term<'a>(signature: &[Symbol], c: &'a Clause, place: &Place) -> Opt
     }
 }
 
-/// Whether a clause has a place.
-pub fn has_place(signature: &[Symbol], c: &Clause, place: &Place) -> bool
-    ensures { IsTrue result ↔ IsSome (spec.tree_at (lits c.now) place.now) }
-{
-    place_term(signature, c, place).is_some()
-}
-
 /// The term at a place that the clause has.
 pub fn at<'a>(signature: &[Symbol], c: &'a Clause, place: &Place) -> &'a Term
     requires { IsSome (spec.tree_at (lits c.now) place.now) }

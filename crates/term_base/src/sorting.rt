@@ -89,11 +89,11 @@ fn have_sorts(signature: &[Symbol], terms: &[Term], sorts: &[Sort]) -> bool
     rest.is_empty()
 }
 
-/// Whether a term is well sorted over the signature.
-pub fn is_well_sorted_term(signature: &[Symbol], t: &Term) -> bool
-    ensures { IsTrue result ↔ IsSome (spec.sort signature.now (tree t.now)) }
+/// Whether a term is well sorted over the signature, and of sort Int.
+pub fn is_integer(signature: &[Symbol], t: &Term) -> bool
+    ensures { result ≡ spec.has_sort (spec.sort signature.now (tree t.now)) Sort.Int }
 {
-    sort_of(signature, t).is_some()
+    has_sort(sort_of(signature, t), Sort::Int)
 }
 
 fn are_alike(a: Option<Sort>, b: Option<Sort>) -> bool

@@ -8,8 +8,6 @@ mod literals;
 mod occurring;
 mod orders;
 mod standing;
-#[cfg(test)]
-mod tests;
 
 pub use literals::is_maximal;
 pub use orders::{Order, compare};

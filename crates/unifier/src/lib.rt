@@ -9,8 +9,6 @@ mod naming;
 mod occurrences;
 mod raising;
 mod solving;
-#[cfg(test)]
-mod tests;
 mod unifying;
 mod variables;
 

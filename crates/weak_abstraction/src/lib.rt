@@ -8,7 +8,5 @@ mod finding;
 mod keys;
 mod naming;
 mod replacing;
-#[cfg(test)]
-mod tests;
 
 pub use abstracting::abstracted;

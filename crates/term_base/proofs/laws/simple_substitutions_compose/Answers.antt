@@ -1,4 +1,4 @@
-use Rattle.term_base.proofs.LawLemmas.{simple-after}
+use Rattle.term_base.specs.SimpleSubst.{simple-after}
 use Rattle.term_base.proofs.laws.simple_substitutions_compose.Goals as goal
 
 pub returns : goal.returns
