@@ -221,7 +221,7 @@ row_sound params p clause (Inst n x a t) allowed proper ok =
     let least : int_le (pos 1) a ≡ true = two.1 in
     inst_sound params p clause x a t (leb-true params x variable) (omega (arith, ints, least)) ok
 row_sound params p clause (Low n x j) allowed proper ok =
-    let one = and_parts _ _ (and_parts _ _ allowed).0 in
+    let one = and_parts _ _ allowed in
     let variable : nat_le params x ≡ true = (and_parts _ _ one.0).0 in
     low_sound params p clause x j (leb-true params x variable) (not-true _ one.1) proper ok
 

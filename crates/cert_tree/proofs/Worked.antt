@@ -3,10 +3,10 @@ use Rattle.std.specs.Prelude.{◌≡◌, ◌^◌, ◌-◌, ℕ, ℤ, pos, negsuc
 use Rattle.std.proofs.Common.{refl}
 use Rattle.lin_base.specs.declared.sums.Lin.{Lin}
 use Rattle.lin_base.specs.declared.facts.Fact.{Fact}
-use Rattle.lin_base.specs.declared.facts.Fact.TheVariants.{AtMostZero, Zero}
+use Rattle.lin_base.specs.declared.facts.Fact.TheVariants.{AtMostZero, Zero, Divides}
 use Rattle.lin_base.specs.declared.facts.Pool.{Pool}
 use Rattle.lin_base.specs.Sum.{number}
-use Rattle.cert_tree.specs.declared.certs.Row.TheVariants.{Inst}
+use Rattle.cert_tree.specs.declared.certs.Row.TheVariants.{Inst, Low}
 use Rattle.cert_tree.specs.declared.certs.Tree.{Tree}
 use Rattle.cert_tree.specs.declared.certs.Tree.TheOpen as open_tree
 use Rattle.cert_tree.specs.declared.certs.Tree.TheViews.{roll-Tree}
@@ -109,6 +109,18 @@ rows_greater = refl
 
 found_false : (visit_of pool_false).found ≡ closed (case 0 (clash 0 ∷ []))
 found_false = refl
+
+-- ---- each x is even: far down at an odd number, also at one below 0
+pool_all_even : Pool
+pool_all_even = pool_of 0 ((Divides (pos 2) (lin ((0, pos 1) ∷ []) (pos 0)) ∷ []) ∷ [])
+
+odd_numbers_close : stands pool_all_even (record { rows = Low 0 0 (pos 1) ∷ []; tree = case 1 (clash 0 ∷ []) }) ≡ true
+unfolding pool_all_even
+odd_numbers_close = simp nodes
+
+negative_numbers_close : stands pool_all_even (record { rows = Low 0 0 (negsuc 0) ∷ []; tree = case 1 (clash 0 ∷ []) }) ≡ true
+unfolding pool_all_even
+negative_numbers_close = simp nodes
 
 -- ---- values 3 and then 2
 pool_at_least_three : Pool

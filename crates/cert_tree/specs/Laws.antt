@@ -37,10 +37,18 @@ abbrev pub TrueHolds : Type 0
 TrueHolds = (pool : Pool) (values : List ℤ) → IsTrue (is_pool pool) → length values ≡ pool.params
     → IsTrue (is_narrow (flat_map (check_steps pool.params values) pool.clauses)) → HoldsAt pool (valuation values) → Holds pool values
 
+-- the clause is true at each value of x
+abbrev pub TrueForAll : Valuation → ℕ → List Fact → Type 0
+TrueForAll v x clause = (z : ℤ) → IsTrue (clause_holds (assigned x z v) clause)
+
+-- each of the clauses is true
+abbrev pub AllTrue : Valuation → List (List Fact) → Type 0
+AllTrue v clauses = AllByRecursion (λ c. IsTrue (clause_holds v c)) clauses
+
 -- for all x the clause is true exactly where all clauses of Complete are
 abbrev pub CompleteShift : Type 0
 CompleteShift = (clause : List Fact) (x : ℕ) (v : Valuation) → AllByRecursion (λ f. IsTrue (is_fact f)) clause
-    → ((z : ℤ) → IsTrue (clause_holds (assigned x z v) clause)) ↔ AllByRecursion (λ c. IsTrue (clause_holds v c)) (complete x clause)
+    → TrueForAll v x clause ↔ AllTrue v (complete x clause)
 
 -- facts that hold have a child of Least whose facts hold, with another value for p alone
 abbrev pub LeastShift : Type 0

@@ -49,14 +49,14 @@ abbrev pub instance_is_allowed : ℕ → List Fact → ℕ → ℤ → Lin → B
 instance_is_allowed params clause x a t =
     is_variable_of params x clause && int_le (pos 1) a && is_lin t && each_unknown (may_stand_for params x clause) t
 
--- j is at least 0, and no AtMostZero literal bounds x above
-abbrev pub low_is_allowed : ℕ → List Fact → ℕ → ℤ → Bool
-low_is_allowed params clause x j = is_variable_of params x clause && not (list_any (bounds_above x) clause) && int_le (pos 0) j
+-- no AtMostZero literal bounds x above
+abbrev pub low_is_allowed : ℕ → List Fact → ℕ → Bool
+low_is_allowed params clause x = is_variable_of params x clause && not (list_any (bounds_above x) clause)
 
 -- the condition of the row
 abbrev pub row_is_allowed : ℕ → List Fact → Row → Bool
 row_is_allowed params clause (Inst n x a t) = instance_is_allowed params clause x a t
-row_is_allowed params clause (Low n x j) = low_is_allowed params clause x j
+row_is_allowed params clause (Low n x j) = low_is_allowed params clause x
 
 -- the clause at a*x = t
 abbrev pub instance_at : ℕ → ℤ → Lin → List Fact → List Fact
@@ -92,7 +92,7 @@ instance_on params clause x a t =
 -- the clause that a row Low gives, where it stands
 abbrev pub low_on : ℕ → List Fact → ℕ → ℤ → Option (List Fact)
 low_on params clause x j =
-    if low_is_allowed params clause x j && is_narrow (low_steps x j clause) then Some (low_at x j clause) else None
+    if low_is_allowed params clause x && is_narrow (low_steps x j clause) then Some (low_at x j clause) else None
 
 -- the clause that the row gives over these clauses, where it stands
 abbrev pub row_on : ℕ → Row → Option (List Fact) → Option (List Fact)

@@ -20,18 +20,19 @@ pub enum Row {
         /// The sum, over parameters and other variables of the clause.
         t: Lin,
     },
-    /// The clause at numbers for `x` that are far down and `j`, at least 0, modulo the clause's moduli.
+    /// The clause at numbers for `x` that are far down and `j` modulo the clause's moduli.
     Low {
         /// The clause's number in the pool as it is extended so far.
         clause: u32,
         /// The variable.
         x: u32,
-        /// The number that is put for the variable, at least 0.
+        /// The number that is put for the variable.
         j: i128,
     },
 }
 
-/// A tree that shows that a list of facts, empty at the root, holds at no values at which the pool is true. A fact's number is its place in the list.
+/// A tree that shows that a list of facts, empty at the root, holds at no values at which the pool is true. A fact's
+/// number is its place in the list.
 #[derive(Debug, Drop)]
 pub enum Tree {
     /// One child for each literal of a clause, which is appended.

@@ -13,7 +13,7 @@ ghost use Rattle.cert_tree.specs.Narrow.{if_narrow, option_then};
 ghost use Rattle.cert_tree.specs.Children as spec;
 
 use crate::clauses::{fact_at, is_over_free};
-use crate::sums::{Side, narrow, one_above, solved};
+use crate::sums::{Side, narrow, one_above, solve_for};
 use crate::used::Used;
 use lin_base::{
     ArithmeticError, Fact, Lin, add_number, add_scaled, coef, is_lin, number, replace, tight,
@@ -37,7 +37,8 @@ fn part_of(fact: &Fact, k: i128) -> Option<&Lin>
 /// That of the fact of this number.
 fn part_at<'a>(facts: &'a [Fact], part: &(u32, i128)) -> Option<&'a Lin>
     requires { IsTrue (list_all is_fact facts.now) }
-    ensures value { spec.part_at facts.now part.now.0 part.now.1 ≡ option_map (λ t. (t, part.now.1)) (option_copied result) }
+    ensures value { spec.part_at facts.now part.now.0 part.now.1 ≡ option_map (λ t. (t, part.now.1))
+        (option_copied result) }
     ensures well_formed { IfSome result (λ t. IsTrue (is_lin t.now)) }
 {
     match fact_at(facts, part.0) {
@@ -62,7 +63,8 @@ fn next_sum(
     narrow(add_scaled(alloc, so_far, part.1, t))
 }
 
-/// The sum of multiples of facts. None where a fact isn't there, can't be multiplied by its number, or where a number leaves the range.
+/// The sum of multiples of facts. None where a fact isn't there, can't be multiplied by its number, or where a number
+/// leaves the range.
 pub fn combination(
     alloc: Global,
     facts: &[Fact],
@@ -85,7 +87,8 @@ pub fn combination(
     Ok(Some(sum))
 }
 
-/// The facts `t <= 0` and `-t + 1 <= 0`, for a sum over parameters that aren't used up. None where the sum is none, or where a number leaves the range.
+/// The facts `t <= 0` and `-t + 1 <= 0`, for a sum over parameters that aren't used up. None where the sum is none, or
+/// where a number leaves the range.
 pub(crate) fn branch_facts(
     alloc: Global,
     params: u32,
@@ -177,7 +180,8 @@ pub fn with_value(
     requires absent { occurs p side.now.rest ≡ false }
     requires value { IsTrue (is_lin side.now.rest) }
     requires facts { IsTrue (list_all is_fact facts.now) }
-    ensures { Forms result (replace_all_steps p side.now.b side.now.rest facts.now) (spec.with_value p side.now.b side.now.rest facts.now) }
+    ensures { Forms result (replace_all_steps p side.now.b side.now.rest facts.now)
+        (spec.with_value p side.now.b side.now.rest facts.now) }
 {
     let mut made = replace_all(alloc, p, side.b, &side.rest, facts)?;
     if side.b != 1 {
@@ -225,7 +229,7 @@ pub fn solved_facts(
     requires facts { IsTrue (list_all is_fact facts.now) }
     ensures { Forms result (spec.solve_steps p facts.now t.now) (spec.solved_facts p facts.now t.now) }
 {
-    let side = solved(alloc, p, t)?;
+    let side = solve_for(alloc, p, t)?;
     with_value(alloc, p, &side, facts)
 }
 

@@ -14,8 +14,8 @@ ghost use Rattle.cert_tree.specs.Rows.{low_at, low_steps};
 ghost use Rattle.cert_tree.specs.Sides.{side_of};
 
 use crate::rows::{formed_far_down, formed_instance, has_upper_bound};
-use crate::sums::{Side, made_positive, narrow, parts_at};
-use crate::test_points::{Bound, formed_period, moved_up};
+use crate::sums::{Side, make_positive, narrow, parts_at};
+use crate::test_points::{Bound, formed_period, move_up};
 use lin_base::{ArithmeticError, Fact, above, checked_mul, coef, number};
 use sqlite_items::Items;
 use std::alloc::{AllocError, Global};
@@ -49,7 +49,7 @@ pub fn formed_upper(alloc: Global, x: u32, fact: &Fact) -> Result<Option<Side>, 
             if coef(x, t) == 0 {
                 return Ok(None);
             }
-            let side = made_positive(alloc, x, t)?;
+            let side = make_positive(alloc, x, t)?;
             Ok(Some(side))
         }
         _ => Ok(None),
@@ -66,9 +66,10 @@ fn formed_instance_at(
 ) -> Result<Items<Fact>, ArithmeticError>
     requires bound { IsTrue (is_side x bound.now) }
     requires clause { IsTrue (list_all is_fact clause.now) }
-    ensures { Forms result (spec.moved_steps x clause.now bound.now.b bound.now.rest j) (spec.moved_instance x clause.now bound.now.b bound.now.rest j) }
+    ensures { Forms result (spec.moved_steps x clause.now bound.now.b bound.now.rest j)
+        (spec.moved_instance x clause.now bound.now.b bound.now.rest j) }
 {
-    let moved = moved_up(alloc, x, bound, j)?;
+    let moved = move_up(alloc, x, bound, j)?;
     formed_instance(alloc, x, &moved.b, &moved.rest, clause)
 }
 
@@ -82,7 +83,8 @@ fn formed_instances_at(
 ) -> Result<Items<Items<Fact>>, ArithmeticError>
     requires bound { IsTrue (is_side x bound.now) }
     requires clause { IsTrue (list_all is_fact clause.now) }
-    ensures { Forms result (flat_map (spec.moved_steps x clause.now bound.now.b bound.now.rest) (count_from 0 count)) (map (spec.moved_instance x clause.now bound.now.b bound.now.rest) (count_from 0 count)) }
+    ensures { Forms result (flat_map (spec.moved_steps x clause.now bound.now.b bound.now.rest) (count_from 0 count))
+        (map (spec.moved_instance x clause.now bound.now.b bound.now.rest) (count_from 0 count)) }
 {
     let mut made = Items::new(alloc);
     for j in 0..count {
@@ -115,7 +117,8 @@ fn formed_instances(
     requires d { pos 1 ≤ℤ d.now }
     requires side { IsTrue (is_side x side.now) }
     requires clause { IsTrue (list_all is_fact clause.now) }
-    ensures { Forms result (spec.instances_steps x clause.now d.now side.now.b side.now.rest) (spec.instances_at x clause.now d.now side.now.b side.now.rest) }
+    ensures { Forms result (spec.instances_steps x clause.now d.now side.now.b side.now.rest)
+        (spec.instances_at x clause.now d.now side.now.b side.now.rest) }
 {
     let bound = formed_above_bound(alloc, d, side)?;
     let length = length_of(&bound.children)?;
@@ -134,7 +137,8 @@ fn formed_of_literal(
     requires d { pos 1 ≤ℤ d.now }
     requires fact { IsTrue (is_fact fact.now) }
     requires clause { IsTrue (list_all is_fact clause.now) }
-    ensures { Forms result (spec.literal_steps x clause.now d.now (spec.upper x fact.now)) (spec.literal_instances x clause.now d.now (spec.upper x fact.now)) }
+    ensures { Forms result (spec.literal_steps x clause.now d.now (spec.upper x fact.now))
+        (spec.literal_instances x clause.now d.now (spec.upper x fact.now)) }
 {
     match formed_upper(alloc, x, fact)? {
         Some(side) => formed_instances(alloc, x, d, &side, clause),
@@ -151,7 +155,8 @@ fn formed_uppers(
 ) -> Result<Items<Items<Fact>>, ArithmeticError>
     requires d { pos 1 ≤ℤ d.now }
     requires clause { IsTrue (list_all is_fact clause.now) }
-    ensures { Forms result (spec.uppers_steps x clause.now d.now clause.now) (spec.uppers_at x clause.now d.now clause.now) }
+    ensures { Forms result (spec.uppers_steps x clause.now d.now clause.now)
+        (spec.uppers_at x clause.now d.now clause.now) }
 {
     let mut made = Items::new(alloc);
     for fact in clause {
@@ -183,7 +188,8 @@ fn formed_numbered_lows(
     clause: &[Fact],
 ) -> Result<Items<Items<Fact>>, ArithmeticError>
     requires { IsTrue (list_all is_fact clause.now) }
-    ensures { Forms result (spec.numbered_low_steps x clause.now (count_from 0 count)) (spec.numbered_lows x clause.now (count_from 0 count)) }
+    ensures { Forms result (spec.numbered_low_steps x clause.now (count_from 0 count))
+        (spec.numbered_lows x clause.now (count_from 0 count)) }
 {
     let mut made = Items::new(alloc);
     for j in 0..count {
@@ -221,7 +227,8 @@ fn formed_rows(
 ) -> Result<Items<Items<Fact>>, ArithmeticError>
     requires d { pos 1 ≤ℤ d.now }
     requires clause { IsTrue (list_all is_fact clause.now) }
-    ensures { Forms result (spec.uppers_steps x clause.now d.now clause.now ++ spec.lows_steps x clause.now d.now) (spec.uppers_at x clause.now d.now clause.now ++ spec.lows_at x clause.now d.now) }
+    ensures { Forms result (spec.uppers_steps x clause.now d.now clause.now ++ spec.lows_steps x clause.now d.now)
+        (spec.uppers_at x clause.now d.now clause.now ++ spec.lows_at x clause.now d.now) }
 {
     let mut made = formed_uppers(alloc, x, d, clause)?;
     let lows = formed_lows(alloc, x, d, clause)?;
@@ -229,7 +236,8 @@ fn formed_rows(
     Ok(made)
 }
 
-/// All clauses of Complete of a clause and `x`, in its order. Wide where a number leaves the range, with the first one's operands.
+/// All clauses of Complete of a clause and `x`, in its order. Wide where a number leaves the range, with the first
+/// one's operands.
 #[tactic(auto, using(crate::proofs::Forming::forming))]
 pub fn formed_complete(
     alloc: Global,

@@ -32,7 +32,8 @@ fn is_true(clause: &[Fact]) -> bool
     false
 }
 
-/// Whether the clauses without unknowns that Complete gives, down from a clause, are true and every number formed for them stays in the range. These are the variables that may occur.
+/// Whether the clauses without unknowns that Complete gives, down from a clause, are true and every number formed for
+/// them stays in the range. These are the variables that may occur.
 #[cycle(ground_holds)]
 fn ground_holds(alloc: Global, variables: &[u32], clause: &[Fact]) -> Result<bool, AllocError>
     requires { IsTrue (list_all is_fact clause.now) }
@@ -93,13 +94,15 @@ fn at_value(
     clause: &[Fact],
 ) -> Result<Option<Items<Fact>>, AllocError>
     requires { IsTrue (list_all is_fact clause.now) }
-    ensures value { IfOk result (λ o. o ≡ if_narrow (spec.at_steps p z.now clause.now) (spec.at_value p z.now clause.now)) }
+    ensures value { IfOk result (λ o. o ≡ if_narrow (spec.at_steps p z.now clause.now)
+        (spec.at_value p z.now clause.now)) }
     ensures well_formed { IfOk result (λ o. IfSome o (λ fs. IsTrue (list_all is_fact fs))) }
 {
     narrow(formed_at(alloc, p, z, clause))
 }
 
-/// The clause with a value for a parameter: as it is where the parameter doesn't occur. None where a number leaves the range.
+/// The clause with a value for a parameter: as it is where the parameter doesn't occur. None where a number leaves the
+/// range.
 fn put_value(
     alloc: Global,
     p: u32,
@@ -124,7 +127,8 @@ fn at_values(
 ) -> Result<Option<Items<Fact>>, AllocError>
     requires count { length values.now < 2 ^ 32 }
     requires clause { IsTrue (list_all is_fact clause.now) }
-    ensures value { IfOk result (λ o. o ≡ if_narrow (spec.put_steps_from 0 values.now clause.now) (spec.put_from 0 values.now clause.now)) }
+    ensures value { IfOk result (λ o. o ≡ if_narrow (spec.put_steps_from 0 values.now clause.now)
+        (spec.put_from 0 values.now clause.now)) }
     ensures well_formed { IfOk result (λ o. IfSome o (λ fs. IsTrue (list_all is_fact fs))) }
 {
     let mut put = copy_facts(alloc, clause)?;
@@ -174,12 +178,16 @@ fn checks(alloc: Global, pool: &Pool, values: &[i128]) -> Result<bool, AllocErro
     Ok(true)
 }
 
-/// Whether there is one value for each parameter, every clause is true at the values for all values of its variables, and no number of the check leaves the range. The check puts the values into each clause, one after the other by ascending parameter, and then forms Complete (Cooper 1972) down to clauses without unknowns.
+/// Whether there is one value for each parameter, every clause is true at the values for all values of its variables,
+/// and no number of the check leaves the range. The check puts the values into each clause, one after the other by
+/// ascending parameter, and then forms Complete (Cooper 1972) down to clauses without unknowns.
 pub fn check_sat(alloc: Global, pool: &Pool, values: &[i128]) -> Result<bool, AllocError>
     requires { IsTrue (is_pool pool.now) }
     ensures value { IfOk result (λ yes. yes ≡ spec.checks pool.now values.now) }
     ensures true_there { IfOk result (λ yes. IsTrue yes → HoldsAt pool.now (valuation values.now)) }
-    ensures found { IfOk result (λ yes. length values.now ≡ pool.now.params → IsTrue (is_narrow (flat_map (spec.check_steps pool.now.params values.now) pool.now.clauses)) → HoldsAt pool.now (valuation values.now) → IsTrue yes) }
+    ensures found { IfOk result (λ yes. length values.now ≡ pool.now.params →
+        IsTrue (is_narrow (flat_map (spec.check_steps pool.now.params values.now) pool.now.clauses)) →
+        HoldsAt pool.now (valuation values.now) → IsTrue yes) }
 {
     checks(alloc, pool, values)
 }

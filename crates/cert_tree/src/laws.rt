@@ -22,7 +22,8 @@ pub fn complete_has_every_case()
     ensures { CompleteShift }
 {}
 
-/// Facts that hold at some integer for `p` have a child of Least whose facts hold, at the same values of the other unknowns (Cooper 1972).
+/// Facts that hold at some integer for `p` have a child of Least whose facts hold, at the same values of the other
+/// unknowns (Cooper 1972).
 pub fn least_has_every_case()
     ensures { LeastShift }
 {}

@@ -2,17 +2,18 @@
 #![tactic(auto)]
 
 mod certs;
-pub mod children;
+mod children;
 mod clauses;
-pub mod completing;
+mod completing;
 mod holding;
 mod laws;
-pub mod rows;
+mod rows;
+pub mod search_tools;
 mod standing;
-pub mod sums;
-pub mod test_points;
+mod sums;
+mod test_points;
 mod used;
-pub mod variables;
+mod variables;
 
 pub use certs::{Cert, Row, Tree};
 pub use holding::check_sat;

@@ -106,7 +106,8 @@ pub fn stays_in(alloc: Global, x: u32, clause: &[Fact]) -> Result<Items<Fact>, A
     Ok(kept)
 }
 
-/// The clause at `a*x = t`: the literal that `a` doesn't divide `t`, left out where `a` is 1, then each literal with `t` in place of `a*x`.
+/// The clause at `a*x = t`: the literal that `a` doesn't divide `t`, left out where `a` is 1, then each literal with
+/// `t` in place of `a*x`.
 pub fn formed_instance(
     alloc: Global,
     x: u32,
@@ -128,7 +129,8 @@ pub fn formed_instance(
     Ok(made)
 }
 
-/// The clause where `x` is far down: its AtMostZero and Zero literals with `x` are left out, and in the others `t` is put for `x`.
+/// The clause where `x` is far down: its AtMostZero and Zero literals with `x` are left out, and in the others `t` is
+/// put for `x`.
 pub fn formed_far_down(
     alloc: Global,
     x: u32,
@@ -138,7 +140,8 @@ pub fn formed_far_down(
     requires absent { occurs x t.now ≡ false }
     requires value { IsTrue (is_lin t.now) }
     requires clause { IsTrue (list_all is_fact clause.now) }
-    ensures { Forms result (replace_all_steps x (pos 1) t.now (spec.stays_in x clause.now)) (map (replace x (pos 1) t.now) (spec.stays_in x clause.now)) }
+    ensures { Forms result (replace_all_steps x (pos 1) t.now (spec.stays_in x clause.now))
+        (map (replace x (pos 1) t.now) (spec.stays_in x clause.now)) }
 {
     let kept = stays_in(alloc, x, clause)?;
     replace_all(alloc, x, 1, t, kept.as_slice())
@@ -158,7 +161,8 @@ fn formed_low(
     formed_far_down(alloc, x, &number(alloc, *j), clause)
 }
 
-/// Whether `x` is a variable of the clause, `a` at least 1, and `t` a sum over parameters and other variables of the clause.
+/// Whether `x` is a variable of the clause, `a` at least 1, and `t` a sum over parameters and other variables of the
+/// clause.
 fn instance_is_allowed(params: u32, clause: &[Fact], x: u32, a: &i128, t: &Lin) -> bool
     ensures { result ≡ spec.instance_is_allowed params clause.now x a.now t.now }
 {
@@ -188,12 +192,12 @@ fn instance_on(
     narrow(formed_instance(alloc, x, a, t, clause))
 }
 
-/// Whether `x` is a variable of the clause that no AtMostZero literal bounds above, and `j` at least 0.
-fn low_is_allowed(params: u32, clause: &[Fact], x: u32, j: &i128) -> bool
+/// Whether `x` is a variable of the clause that no AtMostZero literal bounds above.
+fn low_is_allowed(params: u32, clause: &[Fact], x: u32) -> bool
     requires { IsTrue (list_all is_fact clause.now) }
-    ensures { result ≡ spec.low_is_allowed params clause.now x j.now }
+    ensures { result ≡ spec.low_is_allowed params clause.now x }
 {
-    is_variable_of(params, x, clause) && !has_upper_bound(x, clause) && *j >= 0
+    is_variable_of(params, x, clause) && !has_upper_bound(x, clause)
 }
 
 /// The clause that a row Low gives, where it stands.
@@ -209,7 +213,7 @@ fn low_on(
     ensures value { IfOk result (λ c. c ≡ spec.low_on params clause.now x j.now) }
     ensures well_formed { IfOk result (λ c. IfSome c (λ fs. IsTrue (list_all is_fact fs))) }
 {
-    if !low_is_allowed(params, clause, x, j) {
+    if !low_is_allowed(params, clause, x) {
         return Ok(None);
     }
     narrow(formed_low(alloc, x, j, clause))
@@ -254,9 +258,10 @@ fn row_over(alloc: Global, pool: &Pool, row: &Row) -> Result<Option<Items<Fact>>
 }
 
 /// The pool, its clauses followed by those that the rows give, one after the other. None where a row doesn't stand.
-pub fn extended(alloc: Global, pool: &Pool, rows: &[Row]) -> Result<Option<Pool>, AllocError>
+pub fn extend(alloc: Global, pool: &Pool, rows: &[Row]) -> Result<Option<Pool>, AllocError>
     requires { IsTrue (is_pool pool.now) }
-    ensures value { IfOk result (λ o. option_map (λ p. p.clauses) o ≡ spec.extended pool.now.params rows.now pool.now.clauses) }
+    ensures value { IfOk result (λ o. option_map (λ p. p.clauses) o ≡
+        spec.extended pool.now.params rows.now pool.now.clauses) }
     ensures params { IfOk result (λ o. IfSome o (λ p. p.params ≡ pool.now.params)) }
     ensures well_formed { IfOk result (λ o. IfSome o (λ p. IsTrue (is_pool p))) }
 {

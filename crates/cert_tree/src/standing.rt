@@ -1,8 +1,8 @@
 //! The check of certificates.
 
-ghost use Rattle.std.specs.Prelude.{◌≡◌, ◌≤◌, ◌+◌, ◌≤ℤ◌, ◌&&◌, ◌++◌, ◌∷◌, [], pos, length, take, drop, IfOk, IfSome, OnOk, IsTrue, map};
+ghost use Rattle.std.specs.Prelude.{◌≡◌, ◌≤◌, ◌+◌, ◌≤ℤ◌, ◌&&◌, ◌++◌, ◌∷◌, [], pos, length, take, drop, IfOk, IfSome, OnOk, IsTrue, map, true};
 ghost use Rattle.std.specs.List.{list_all};
-ghost use Rattle.lin_base.specs.Fact.{is_fact, is_lin, is_pool};
+ghost use Rattle.lin_base.specs.Fact.{is_fact, is_lin, is_pool, Impossible};
 ghost use Rattle.lin_base.specs.Steps.{is_narrow};
 ghost use Rattle.cert_tree.specs.Children as spec;
 ghost use Rattle.cert_tree.specs.Stands.{tree_stands, each_stands, numbered_stand, stands, residues_stand, least_stands};
@@ -12,7 +12,8 @@ ghost use Rattle.cert_tree.specs.Bounds.{is_side};
 use crate::certs::{Cert, Tree};
 use crate::children::{branch_facts, combination, cut_at, residue, solve_child};
 use crate::clauses::{clause_at, fact_at, has_lower_bound, is_free, is_open_case, is_over_free};
-use crate::rows::extended;
+use crate::laws::standing_is_impossible;
+use crate::rows::extend;
 use crate::sums::Side;
 use crate::test_points::{count_within, far, is_count, lower_bound, period, point};
 use crate::used::Used;
@@ -20,15 +21,28 @@ use lin_base::{Fact, Lin, Pool, is_false, is_lin};
 use sqlite_items::Items;
 use std::alloc::{AllocError, Global};
 
-/// Whether a certificate stands for a pool, so that the pool is true at no values. Nothing is assumed of the certificate: numbers of clauses, facts, rows or parameters that aren't there, negative multipliers of AtMostZero facts, negative numbers far down, wrong counts of children and sums whose unknowns don't ascend make it one that doesn't stand. Every number that the rows and the tree form stays in the range.
+/// Whether a certificate stands for a pool, so that the pool is true at no values. Nothing is assumed of the
+/// certificate: numbers of clauses, facts, rows or parameters that aren't there, negative multipliers of AtMostZero
+/// facts, wrong counts of children and sums whose unknowns don't ascend make it one that doesn't stand. Every number
+/// that the rows and the tree form stays in the range.
 pub fn check_unsat(alloc: Global, pool: &Pool, cert: &Cert) -> Result<bool, AllocError>
+    requires { IsTrue (is_pool pool.now) }
+    ensures exact { IfOk result (λ yes. yes ≡ stands pool.now cert.now) }
+    ensures impossible { IfOk result (λ yes. yes ≡ true → Impossible pool.now) }
+{
+    standing_is_impossible();
+    cert_stands(alloc, pool, cert)
+}
+
+/// Whether the tree stands over the pool as the rows extend it.
+fn cert_stands(alloc: Global, pool: &Pool, cert: &Cert) -> Result<bool, AllocError>
     requires { IsTrue (is_pool pool.now) }
     ensures { IfOk result (λ yes. yes ≡ stands pool.now cert.now) }
 {
     if cert.rows.is_empty() {
         return root_stands(alloc, pool, &cert.tree);
     }
-    match extended(alloc, pool, cert.rows.as_slice())? {
+    match extend(alloc, pool, cert.rows.as_slice())? {
         Some(longer) => root_stands(alloc, &longer, &cert.tree),
         None => Ok(false),
     }
@@ -55,7 +69,8 @@ fn tree_stands(
 ) -> Result<bool, AllocError>
     requires pool_is { IsTrue (is_pool pool.now) }
     requires facts_are { IsTrue (list_all is_fact facts.old) }
-    ensures answer { IfOk result (λ yes. yes ≡ tree_stands pool.now.params pool.now.clauses tree.now used.old facts.old) }
+    ensures answer { IfOk result (λ yes. yes ≡
+        tree_stands pool.now.params pool.now.clauses tree.now used.old facts.old) }
     ensures used { OnOk result (used.new ≡ used.old) }
     ensures facts { OnOk result (facts.new ≡ facts.old) }
 {
@@ -134,7 +149,8 @@ fn stands_without(
 ) -> Result<bool, AllocError>
     requires pool_is { IsTrue (is_pool pool.now) }
     requires facts_are { IsTrue (list_all is_fact facts.old) }
-    ensures answer { IfOk result (λ yes. yes ≡ tree_stands pool.now.params pool.now.clauses tree.now (p ∷ used.old) facts.old) }
+    ensures answer { IfOk result (λ yes. yes ≡ tree_stands pool.now.params pool.now.clauses tree.now
+        (p ∷ used.old) facts.old) }
     ensures used { OnOk result (used.new ≡ used.old) }
     ensures facts { OnOk result (facts.new ≡ facts.old) }
 {
@@ -158,7 +174,8 @@ fn stands_with(
     requires pool_is { IsTrue (is_pool pool.now) }
     requires facts_are { IsTrue (list_all is_fact facts.old) }
     requires fact_is { IsTrue (is_fact fact) }
-    ensures answer { IfOk result (λ yes. yes ≡ tree_stands pool.now.params pool.now.clauses tree.now used.old (facts.old ++ fact ∷ [])) }
+    ensures answer { IfOk result (λ yes. yes ≡ tree_stands pool.now.params pool.now.clauses tree.now used.old
+        (facts.old ++ fact ∷ [])) }
     ensures used { OnOk result (used.new ≡ used.old) }
     ensures facts { OnOk result (facts.new ≡ facts.old) }
 {
@@ -181,7 +198,8 @@ fn each_stands(
     requires pool_is { IsTrue (is_pool pool.now) }
     requires facts_are { IsTrue (list_all is_fact facts.old) }
     requires literals_are { IsTrue (list_all is_fact literals.now) }
-    ensures answer { IfOk result (λ yes. yes ≡ each_stands used.old (map (tree_stands pool.now.params pool.now.clauses) children.now) (spec.with_each facts.old literals.now)) }
+    ensures answer { IfOk result (λ yes. yes ≡ each_stands used.old
+        (map (tree_stands pool.now.params pool.now.clauses) children.now) (spec.with_each facts.old literals.now)) }
     ensures used { OnOk result (used.new ≡ used.old) }
     ensures facts { OnOk result (facts.new ≡ facts.old) }
 {
@@ -201,7 +219,8 @@ fn each_stands(
     Ok(rest.is_empty())
 }
 
-/// Whether there are `m` children, `m` at least 2, and each stands with its remainder of `t` modulo `m`, over parameters that aren't used up.
+/// Whether there are `m` children, `m` at least 2, and each stands with its remainder of `t` modulo `m`, over
+/// parameters that aren't used up.
 #[cycle(tree_stands)]
 fn residues_stand(
     alloc: Global,
@@ -214,7 +233,8 @@ fn residues_stand(
 ) -> Result<bool, AllocError>
     requires pool_is { IsTrue (is_pool pool.now) }
     requires facts_are { IsTrue (list_all is_fact facts.old) }
-    ensures answer { IfOk result (λ yes. yes ≡ residues_stand pool.now.params m t.now (map (tree_stands pool.now.params pool.now.clauses) children.now) used.old facts.old) }
+    ensures answer { IfOk result (λ yes. yes ≡ residues_stand pool.now.params m t.now
+        (map (tree_stands pool.now.params pool.now.clauses) children.now) used.old facts.old) }
     ensures used { OnOk result (used.new ≡ used.old) }
     ensures facts { OnOk result (facts.new ≡ facts.old) }
 {
@@ -242,7 +262,9 @@ fn each_residue_stands(
     requires facts_are { IsTrue (list_all is_fact facts.old) }
     requires m { pos 2 ≤ℤ m }
     requires t { IsTrue (is_lin t.now) }
-    ensures answer { IfOk result (λ yes. yes ≡ numbered_stand (spec.residue_steps t.now) (spec.residue_child facts.old m t.now) used.old 0 (map (tree_stands pool.now.params pool.now.clauses) children.now)) }
+    ensures answer { IfOk result (λ yes. yes ≡ numbered_stand (spec.residue_steps t.now)
+        (spec.residue_child facts.old m t.now) used.old 0
+        (map (tree_stands pool.now.params pool.now.clauses) children.now)) }
     ensures used { OnOk result (used.new ≡ used.old) }
     ensures facts { OnOk result (facts.new ≡ facts.old) }
 {
@@ -257,7 +279,8 @@ fn each_residue_stands(
     Ok(true)
 }
 
-/// Whether `p` is a parameter that isn't used up, and there is one child for each of its test points, which stands there. After an Ok the used-up parameters are as before.
+/// Whether `p` is a parameter that isn't used up, and there is one child for each of its test points, which stands
+/// there. After an Ok the used-up parameters are as before.
 #[cycle(tree_stands)]
 fn least_stands(
     alloc: Global,
@@ -269,7 +292,8 @@ fn least_stands(
 ) -> Result<bool, AllocError>
     requires pool_is { IsTrue (is_pool pool.now) }
     requires facts_are { IsTrue (list_all is_fact facts.now) }
-    ensures answer { IfOk result (λ yes. yes ≡ least_stands pool.now.params p (map (tree_stands pool.now.params pool.now.clauses) children.now) used.old facts.now) }
+    ensures answer { IfOk result (λ yes. yes ≡ least_stands pool.now.params p
+        (map (tree_stands pool.now.params pool.now.clauses) children.now) used.old facts.now) }
     ensures used { OnOk result (used.new ≡ used.old) }
 {
     if !is_free(pool.params, used, p) {
@@ -299,7 +323,9 @@ fn far_stand(
 ) -> Result<bool, AllocError>
     requires pool_is { IsTrue (is_pool pool.now) }
     requires facts_are { IsTrue (list_all is_fact facts.now) }
-    ensures answer { IfOk result (λ yes. yes ≡ numbered_stand (spec.far_child_steps p facts.now) (spec.far_child p facts.now) (p ∷ used.old) 0 (map (tree_stands pool.now.params pool.now.clauses) children.now)) }
+    ensures answer { IfOk result (λ yes. yes ≡ numbered_stand (spec.far_child_steps p facts.now)
+        (spec.far_child p facts.now) (p ∷ used.old) 0
+        (map (tree_stands pool.now.params pool.now.clauses) children.now)) }
     ensures used { OnOk result (used.new ≡ used.old) }
 {
     for (j, child) in children.iter().enumerate() {
@@ -330,7 +356,8 @@ fn points_stand(
     requires facts_are { IsTrue (list_all is_fact facts.now) }
     requires side_is { IsTrue (is_side p side.now) }
     requires within { start + count ≤ length children.now }
-    ensures answer { IfOk result (λ yes. yes ≡ points_stand p facts.now (p ∷ used.old) side.now.b side.now.rest (map (tree_stands pool.now.params pool.now.clauses) (take count (drop start children.now)))) }
+    ensures answer { IfOk result (λ yes. yes ≡ points_stand p facts.now (p ∷ used.old) side.now.b side.now.rest
+        (map (tree_stands pool.now.params pool.now.clauses) (take count (drop start children.now)))) }
     ensures used { OnOk result (used.new ≡ used.old) }
 {
     for j in 0..count {
@@ -345,7 +372,8 @@ fn points_stand(
     Ok(true)
 }
 
-/// How many of the children from `start` on belong to the lower bound that a fact is, where each of them stands at its test point; 0 where the fact is no lower bound of `p`.
+/// How many of the children from `start` on belong to the lower bound that a fact is, where each of them stands at its
+/// test point; 0 where the fact is no lower bound of `p`.
 #[cycle(tree_stands)]
 fn bound_stands(
     alloc: Global,
@@ -362,7 +390,8 @@ fn bound_stands(
     requires facts_are { IsTrue (list_all is_fact facts.now) }
     requires fact { IsTrue (is_fact fact.now) }
     requires start { start ≤ length children.now }
-    ensures count { IfOk result (λ n. n ≡ bound_stands p facts.now (p ∷ used.old) (spec.lower_bound p d.now fact.now) (map (tree_stands pool.now.params pool.now.clauses) (drop start children.now))) }
+    ensures count { IfOk result (λ n. n ≡ bound_stands p facts.now (p ∷ used.old) (spec.lower_bound p d.now fact.now)
+        (map (tree_stands pool.now.params pool.now.clauses) (drop start children.now))) }
     ensures within { IfOk result (λ o. IfSome o (λ n. start + n ≤ length children.now)) }
     ensures used { OnOk result (used.new ≡ used.old) }
 {
@@ -405,7 +434,8 @@ fn bounds_stand(
 ) -> Result<bool, AllocError>
     requires pool_is { IsTrue (is_pool pool.now) }
     requires facts_are { IsTrue (list_all is_fact facts.now) }
-    ensures answer { IfOk result (λ yes. yes ≡ bounds_stand p d.now facts.now (p ∷ used.old) facts.now (map (tree_stands pool.now.params pool.now.clauses) children.now)) }
+    ensures answer { IfOk result (λ yes. yes ≡ bounds_stand p d.now facts.now (p ∷ used.old) facts.now
+        (map (tree_stands pool.now.params pool.now.clauses) children.now)) }
     ensures used { OnOk result (used.new ≡ used.old) }
 {
     let mut start = 0;

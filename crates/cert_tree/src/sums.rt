@@ -57,7 +57,7 @@ pub fn parts_at(alloc: Global, x: u32, t: &Lin) -> Result<Side, AllocError>
 
 /// `b*x + u` with `b` positive, of a sum with `x` that is 0.
 #[tactic(auto, using(crate::proofs::Siding::siding))]
-pub fn made_positive(alloc: Global, x: u32, t: &Lin) -> Result<Side, ArithmeticError>
+pub fn make_positive(alloc: Global, x: u32, t: &Lin) -> Result<Side, ArithmeticError>
     requires { IsTrue (is_lin t.now) }
     ensures { Forms result (points.made_positive x t.now).steps (side_of (points.made_positive x t.now)) }
 {
@@ -70,11 +70,11 @@ pub fn made_positive(alloc: Global, x: u32, t: &Lin) -> Result<Side, ArithmeticE
 
 /// `b*x = s` with `b` positive, of a sum with `x` that is 0.
 #[tactic(auto, using(crate::proofs::Siding::siding))]
-pub fn solved(alloc: Global, x: u32, t: &Lin) -> Result<Side, ArithmeticError>
+pub fn solve_for(alloc: Global, x: u32, t: &Lin) -> Result<Side, ArithmeticError>
     requires { IsTrue (is_lin t.now) }
     ensures { Forms result (points.solved x t.now).steps (side_of (points.solved x t.now)) }
 {
-    let positive = made_positive(alloc, x, t)?;
+    let positive = make_positive(alloc, x, t)?;
     let rest = negate(alloc, &positive.rest)?;
     Ok(Side {
         b: positive.b,

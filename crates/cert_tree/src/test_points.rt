@@ -13,7 +13,7 @@ ghost use Rattle.cert_tree.specs.Leasts.{count_within, is_count};
 ghost use Rattle.cert_tree.specs.Bounds.{bound_of, is_side, moved_by};
 
 use crate::children::with_value;
-use crate::sums::{Side, below, narrow, solved};
+use crate::sums::{Side, below, narrow, solve_for};
 use lin_base::{
     ArithmeticError, Fact, Lin, Wide, add_number, checked_mul, coef, lcm, number, occurs, replace,
 };
@@ -39,7 +39,8 @@ fn modulus_at(x: u32, fact: &Fact) -> Option<i128>
 fn next_period(so_far: &i128, x: u32, fact: &Fact) -> Result<i128, Wide>
     requires so_far { pos 1 ≤ℤ so_far.now }
     requires fact { IsTrue (is_fact fact.now) }
-    ensures { result ≡ formed_by (points.next_period_steps so_far.now (points.modulus_at x fact.now)) (points.next_period so_far.now (points.modulus_at x fact.now)) }
+    ensures { result ≡ formed_by (points.next_period_steps so_far.now (points.modulus_at x fact.now))
+        (points.next_period so_far.now (points.modulus_at x fact.now)) }
 {
     match modulus_at(x, fact) {
         Some(m) => lcm(*so_far, m),
@@ -97,7 +98,7 @@ fn bound_at(alloc: Global, p: u32, t: &Lin) -> Result<Bound, ArithmeticError>
     requires { IsTrue (is_lin t.now) }
     ensures { Forms result (points.solved p t.now).steps (bound_of (spec.solved_bound p t.now)) }
 {
-    let side = solved(alloc, p, t)?;
+    let side = solve_for(alloc, p, t)?;
     Ok(Bound { side, children: 1 })
 }
 
@@ -110,7 +111,8 @@ fn formed_bound(
     fact: &Fact,
 ) -> Result<Option<Bound>, ArithmeticError>
     requires { IsTrue (is_fact fact.now) }
-    ensures { Forms result (spec.bound_steps_of (spec.lower_bound p d.now fact.now)) (option_map bound_of (spec.lower_bound p d.now fact.now)) }
+    ensures { Forms result (spec.bound_steps_of (spec.lower_bound p d.now fact.now))
+        (option_map bound_of (spec.lower_bound p d.now fact.now)) }
 {
     match fact {
         Fact::AtMostZero(t) => {
@@ -140,7 +142,8 @@ pub fn lower_bound(
     fact: &Fact,
 ) -> Result<Option<Option<Bound>>, AllocError>
     requires { IsTrue (is_fact fact.now) }
-    ensures value { IfOk result (λ o. o ≡ if_narrow (spec.bound_steps_of (spec.lower_bound p d.now fact.now)) (option_map bound_of (spec.lower_bound p d.now fact.now))) }
+    ensures value { IfOk result (λ o. o ≡ if_narrow (spec.bound_steps_of (spec.lower_bound p d.now fact.now))
+        (option_map bound_of (spec.lower_bound p d.now fact.now))) }
     ensures well_formed { IfOk result (λ o. IfSome o (λ b. IfSome b (λ bound. IsTrue (is_side p bound.side)))) }
 {
     narrow(formed_bound(alloc, p, d, fact))
@@ -167,7 +170,7 @@ pub fn is_count(count: &i128, available: usize) -> bool
 
 /// The bound moved up by `j`.
 #[tactic(auto, using(crate::proofs::Forming::forming))]
-pub fn moved_up(alloc: Global, p: u32, side: &Side, j: usize) -> Result<Side, ArithmeticError>
+pub fn move_up(alloc: Global, p: u32, side: &Side, j: usize) -> Result<Side, ArithmeticError>
     requires { IsTrue (is_side p side.now) }
     ensures formed { Forms result (add_number_steps side.now.rest (pos j)) (moved_by side.now j) }
     ensures value { IfOk result (λ moved. IsTrue (is_lin moved.rest)) }
@@ -186,9 +189,10 @@ fn formed_point(
 ) -> Result<Items<Fact>, ArithmeticError>
     requires side { IsTrue (is_side p side.now) }
     requires facts { IsTrue (list_all is_fact facts.now) }
-    ensures { Forms result (spec.point_steps p facts.now side.now.b side.now.rest j) (spec.point p facts.now side.now.b side.now.rest j) }
+    ensures { Forms result (spec.point_steps p facts.now side.now.b side.now.rest j)
+        (spec.point p facts.now side.now.b side.now.rest j) }
 {
-    let moved = moved_up(alloc, p, side, j)?;
+    let moved = move_up(alloc, p, side, j)?;
     with_value(alloc, p, &moved, facts)
 }
 
@@ -203,7 +207,8 @@ pub fn point(
 ) -> Result<Option<Items<Fact>>, AllocError>
     requires side { IsTrue (is_side p side.now) }
     requires facts { IsTrue (list_all is_fact facts.now) }
-    ensures value { IfOk result (λ fs. fs ≡ if_narrow (spec.point_steps p facts.now side.now.b side.now.rest j) (spec.point p facts.now side.now.b side.now.rest j)) }
+    ensures value { IfOk result (λ fs. fs ≡ if_narrow (spec.point_steps p facts.now side.now.b side.now.rest j)
+        (spec.point p facts.now side.now.b side.now.rest j)) }
     ensures well_formed { IfOk result (λ o. IfSome o (λ fs. IsTrue (list_all is_fact fs))) }
 {
     narrow(formed_point(alloc, p, side, j, facts))
@@ -213,7 +218,8 @@ pub fn point(
 #[tactic(auto, using(crate::proofs::Forming::forming))]
 fn put_number(alloc: Global, p: u32, j: usize, fact: &Fact) -> Result<Fact, ArithmeticError>
     requires { IsTrue (is_fact fact.now) }
-    ensures { Forms result (replace_steps p (pos 1) (sum.number (pos j)) fact.now) (replace p (pos 1) (sum.number (pos j)) fact.now) }
+    ensures { Forms result (replace_steps p (pos 1) (sum.number (pos j)) fact.now)
+        (replace p (pos 1) (sum.number (pos j)) fact.now) }
 {
     replace(alloc, fact, p, 1, &number(alloc, j as i128))
 }
@@ -264,7 +270,8 @@ pub fn far(
     facts: &[Fact],
 ) -> Result<Option<Items<Fact>>, AllocError>
     requires { IsTrue (list_all is_fact facts.now) }
-    ensures value { IfOk result (λ fs. fs ≡ if_narrow (spec.far_child_steps p facts.now j) (spec.far_child p facts.now j)) }
+    ensures value { IfOk result (λ fs. fs ≡ if_narrow (spec.far_child_steps p facts.now j)
+        (spec.far_child p facts.now j)) }
     ensures well_formed { IfOk result (λ o. IfSome o (λ fs. IsTrue (list_all is_fact fs))) }
 {
     narrow(formed_far(alloc, p, j, facts))

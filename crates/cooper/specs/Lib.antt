@@ -1,3 +1,4 @@
 pub mod Sharing
 pub mod Walks
+pub mod Visits
 pub mod Deciding

@@ -11,7 +11,8 @@ ghost use Rattle.cooper.specs.Deciding.{IsDecided, Settled, Settles, stated};
 ghost use Rattle.cooper.specs.Walks.{valuation_of, found_by};
 ghost use Rattle.cert_tree.specs.Search as search;
 
-use crate::searching::{search, the_one};
+use crate::closing::the_one;
+use crate::search::Search;
 use crate::valuing::value_at;
 use cert_tree::{Cert, check_sat};
 use cooper_rows::counting::BudgetError;
@@ -66,10 +67,10 @@ fn settle(alloc: Global, pool: &Pool, limit: u64) -> Result<Verdict, BudgetError
     if is_deep(grounded.clauses.len(), pool.params) {
         return Ok(Verdict::Unknown(Why::Deep));
     }
-    let mut facts = Vec::new(alloc);
+    let mut search = Search::new(alloc, room);
     let mut trees = Items::new(alloc);
     let clauses = grounded.clauses.as_slice();
-    match search(alloc, &mut room, clauses, &mut facts, &mut trees)? {
+    match search.visit_clauses(clauses, &mut trees)? {
         Some(values) => Ok(with_values(alloc, pool, values.as_slice())?),
         None => Ok(Verdict::Unsat(Cert {
             rows: grounded.rows,
@@ -80,18 +81,20 @@ fn settle(alloc: Global, pool: &Pool, limit: u64) -> Result<Verdict, BudgetError
 
 /// Decides a pool by Cooper's elimination (Cooper 1972), within a limit of rows and nodes.
 ///
-/// The answer is Unsat with a certificate that stands, or Sat with values for which the check of values says yes, where Bulk
-/// is at most the limit, Span below 2^127 and Depth at most `MAX_DEPTH`. Else it is Unknown: Spent only where Bulk is greater
-/// than the limit, and exactly there where the other two hold; Wide only where Span is 2^127 or greater; Deep only where Depth
-/// is greater than `MAX_DEPTH`.
+/// The answer is Unsat with a certificate that stands, or Sat with values for which the check of values says yes, where
+/// Bulk is at most the limit, Span below 2^127 and Depth at most `MAX_DEPTH`. Else it is Unknown: Spent only where Bulk
+/// is greater than the limit, and exactly there where the other two hold; Wide only where Span is 2^127 or greater;
+/// Deep only where Depth is greater than `MAX_DEPTH`.
 ///
-/// A certificate has the rows of the grounding, Case, Solve and Least as the stated search visits them, and a Clash that names
-/// the first false fact; values are those of the first satisfied leaf.
+/// A certificate has the rows of the grounding, Case, Solve and Least as the stated search visits them, and a Clash
+/// that names the first false fact; values are those of the first satisfied leaf.
 pub fn decide(alloc: Global, pool: &Pool, limit: u64) -> Result<Verdict, AllocError>
     requires { IsTrue (is_pool pool.now) }
     ensures promises { IfOk result (Promises pool.now limit) }
-    ensures spent { IfOk result (λ v. depth pool.now ≤ max_depth → span pool.now < 2 ^ 127 → (v ≡ Unknown Spent) ↔ (limit < bulk pool.now)) }
-    ensures decided { IfOk result (λ v. bulk pool.now ≤ limit → span pool.now < 2 ^ 127 → depth pool.now ≤ max_depth → IsDecided v) }
+    ensures spent { IfOk result (λ v. depth pool.now ≤ max_depth → span pool.now < 2 ^ 127 →
+        (v ≡ Unknown Spent) ↔ (limit < bulk pool.now)) }
+    ensures decided { IfOk result (λ v. bulk pool.now ≤ limit → span pool.now < 2 ^ 127 → depth pool.now ≤ max_depth →
+        IsDecided v) }
     ensures stated { IfOk result (λ v. IsDecided v → v ≡ stated pool.now) }
 {
     match settle(alloc, pool, limit) {

@@ -14,8 +14,7 @@ ghost use Rattle.cert_tree.specs.Sides.{side_of};
 ghost use Rattle.cooper_rows.specs.Counted.{Fits};
 ghost use Rattle.cooper.specs.Sharing.{at_place};
 
-use cert_tree::sums::{Side, solved};
-use cert_tree::test_points::{Bound, lower_bound, moved_up, period};
+use cert_tree::search_tools::{Bound, Side, lower_bound, move_up, period, solve_for};
 use cooper_rows::counting::BudgetError;
 use lin_base::{Fact, Lin};
 use std::alloc::Global;
@@ -28,7 +27,7 @@ pub fn solved_side(alloc: Global, p: u32, t: &Lin) -> Result<Side, BudgetError>
     ensures formed { Fits result (results (points.solved p t.now).steps) (λ e. e ≡ side_of (points.solved p t.now)) }
     ensures well_formed { IfOk result (λ e. IsTrue (is_side p e)) }
 {
-    let side = solved(alloc, p, t)?;
+    let side = solve_for(alloc, p, t)?;
     Ok(side)
 }
 
@@ -39,38 +38,56 @@ pub fn point_side(alloc: Global, p: u32, side: &Side, j: usize) -> Result<Side, 
     ensures formed { Fits result (results (add_number_steps side.now.rest (pos j))) (λ e. e ≡ moved_by side.now j) }
     ensures well_formed { IfOk result (λ e. IsTrue (is_side p e)) }
 {
-    let moved = moved_up(alloc, p, side, j)?;
+    let moved = move_up(alloc, p, side, j)?;
     Ok(moved)
 }
 
-/// The lower bound of `p` that a fact is, if it is one.
-#[tactic(auto, using(crate::proofs::Places::placing))]
-fn bound_in(alloc: Global, p: u32, d: &i128, fact: &Fact) -> Result<Option<Bound>, BudgetError>
-    requires { IsTrue (is_fact fact.now) }
-    ensures formed { Fits result (results (spec.bound_steps_of (spec.lower_bound p d.now fact.now))) (λ o. o ≡ option_map bound_of (spec.lower_bound p d.now fact.now)) }
-    ensures well_formed { IfOk result (λ o. IfSome o (λ e. IsTrue (is_side p e.side))) }
+/// An unknown by whose values a node is split, and its period.
+#[derive(Debug, Drop)]
+pub struct Split {
+    /// The unknown.
+    pub p: u32,
+    /// The least common multiple of the moduli of the facts with it, or 1.
+    pub d: i128,
+}
+
+/// The split by this unknown.
+pub fn split_by(p: u32, d: i128) -> Split
+    ensures p { result.p ≡ p }
+    ensures d { result.d ≡ d }
 {
-    match lower_bound(alloc, p, d, fact)? {
+    Split { p, d }
+}
+
+/// The lower bound of the unknown that a fact is, if it is one.
+#[tactic(auto, using(crate::proofs::Places::placing))]
+fn bound_in(alloc: Global, split: &Split, fact: &Fact) -> Result<Option<Bound>, BudgetError>
+    requires { IsTrue (is_fact fact.now) }
+    ensures formed { let o = spec.lower_bound split.now.p split.now.d fact.now in
+        Fits result (results (spec.bound_steps_of o)) (λ b. b ≡ option_map bound_of o) }
+    ensures well_formed { IfOk result (λ o. IfSome o (λ e. IsTrue (is_side split.now.p e.side))) }
+{
+    match lower_bound(alloc, split.p, &split.d, fact)? {
         Some(bound) => Ok(bound),
         None => Err(BudgetError::Wide),
     }
 }
 
-/// The lower bound of `p` that the fact at a place is, if it is one.
+/// The lower bound of the unknown that the fact at a place is, if it is one.
 #[tactic(auto, using(crate::proofs::Places::placing))]
 pub fn bound_at(
     alloc: Global,
-    p: u32,
-    d: &i128,
+    split: &Split,
     at: usize,
     facts: &[Fact],
 ) -> Result<Option<Bound>, BudgetError>
     requires at { at < length facts.now }
     requires facts { IsTrue (list_all is_fact facts.now) }
-    ensures formed { let o = spec.lower_bound p d.now (at_place facts.now at) in Fits result (results (spec.bound_steps_of o)) (λ b. b ≡ option_map bound_of o) }
-    ensures well_formed { IfOk result (λ o. IfSome o (λ e. IsTrue (is_side p e.side))) }
+    ensures formed { let o = spec.lower_bound split.now.p split.now.d (at_place facts.now at) in
+        Fits result (results (spec.bound_steps_of o)) (λ b. b ≡ option_map bound_of o) }
+    ensures well_formed { IfOk result (λ o. IfSome o (λ e. IsTrue (is_side split.now.p e.side))) }
 {
-    bound_in(alloc, p, d, &facts[at])
+    bound_in(alloc, split, &facts[at])
 }
 
 /// The least common multiple of the moduli of the facts with `p`, or 1.

@@ -13,7 +13,7 @@ ghost use Rattle.cooper_rows.specs.Counted.{Fits};
 ghost use Rattle.cooper.specs.Sharing as spec;
 ghost use Rattle.cooper.specs.Sharing.{changed_steps, noted, number_side, put_back, remade_by, remade_steps, restored};
 
-use cert_tree::sums::Side;
+use cert_tree::search_tools::Side;
 use cooper_rows::counting::BudgetError;
 use lin_base::{Fact, number, occurs, replace};
 use sqlite_items::Items;
@@ -34,7 +34,8 @@ pub struct Kept {
 fn by_side(alloc: Global, p: u32, side: &Side, fact: &Fact) -> Result<Fact, BudgetError>
     requires side { IsTrue (is_side p side.now) }
     requires fact { IsTrue (is_fact fact.now) }
-    ensures { Fits result (results (replace_steps p side.now.b side.now.rest fact.now)) (λ f. f ≡ replace p side.now.b side.now.rest fact.now) }
+    ensures { Fits result (results (replace_steps p side.now.b side.now.rest fact.now))
+        (λ f. f ≡ replace p side.now.b side.now.rest fact.now) }
 {
     let made = replace(alloc, fact, p, side.b, &side.rest)?;
     Ok(made)
@@ -42,10 +43,17 @@ fn by_side(alloc: Global, p: u32, side: &Side, fact: &Fact) -> Result<Fact, Budg
 
 /// The same, but for an AtMostZero fact where `p` is far down: it holds.
 #[tactic(auto, using(crate::proofs::Places::placing))]
-fn remade(alloc: Global, p: u32, far: bool, side: &Side, fact: &Fact) -> Result<Fact, BudgetError>
+fn replace_unless_far(
+    alloc: Global,
+    p: u32,
+    far: bool,
+    side: &Side,
+    fact: &Fact,
+) -> Result<Fact, BudgetError>
     requires side { IsTrue (is_side p side.now) }
     requires fact { IsTrue (is_fact fact.now) }
-    ensures { Fits result (results (remade_steps p far side.now fact.now)) (λ f. f ≡ remade_by p far side.now fact.now) }
+    ensures { Fits result (results (remade_steps p far side.now fact.now))
+        (λ f. f ≡ remade_by p far side.now fact.now) }
 {
     match fact {
         Fact::AtMostZero(_) => {
@@ -73,13 +81,14 @@ fn change(
 ) -> Result<(), BudgetError>
     requires side { IsTrue (is_side p side.now) }
     requires fact { IsTrue (is_fact fact.old) }
-    ensures formed { Fits result (results (changed_steps p far side.now fact.old)) (λ _. fact.new ≡ spec.changed p far side.now fact.old) }
+    ensures formed { Fits result (results (changed_steps p far side.now fact.old))
+        (λ _. fact.new ≡ spec.changed p far side.now fact.old) }
     ensures kept { OnOk result (kept.new ≡ kept.old ++ noted p at fact.old) }
 {
     if !occurs(p, fact.sum()) {
         return Ok(());
     }
-    let made = remade(alloc, p, far, side, fact)?;
+    let made = replace_unless_far(alloc, p, far, side, fact)?;
     let before = mem::replace(fact, made);
     kept.push((at, before))?;
     Ok(())
@@ -95,7 +104,8 @@ fn change_each(
 ) -> Result<Items<(usize, Fact)>, BudgetError>
     requires side { IsTrue (is_side p side.now) }
     requires facts { IsTrue (list_all is_fact facts.old) }
-    ensures formed { Fits result (results (flat_map (changed_steps p far side.now) facts.old)) (λ _. facts.new ≡ map (spec.changed p far side.now) facts.old) }
+    ensures formed { Fits result (results (flat_map (changed_steps p far side.now) facts.old))
+        (λ _. facts.new ≡ map (spec.changed p far side.now) facts.old) }
     ensures kept { IfOk result (λ places. put_back places facts.new ≡ facts.old) }
 {
     let mut kept = Items::new(alloc);
@@ -115,7 +125,8 @@ fn change_all(
 ) -> Result<Kept, BudgetError>
     requires side { IsTrue (is_side p side.now) }
     requires facts { IsTrue (list_all is_fact facts.old.items) }
-    ensures formed { Fits result (results (flat_map (changed_steps p far side.now) facts.old.items)) (λ _. facts.new.items ≡ map (spec.changed p far side.now) facts.old.items) }
+    ensures formed { Fits result (results (flat_map (changed_steps p far side.now) facts.old.items))
+        (λ _. facts.new.items ≡ map (spec.changed p far side.now) facts.old.items) }
     ensures length { IfOk result (λ kept. kept.length ≡ length facts.old.items) }
     ensures places { IfOk result (λ kept. put_back kept.places facts.new.items ≡ facts.old.items) }
 {
@@ -143,7 +154,8 @@ pub fn put_side(
 ) -> Result<Kept, BudgetError>
     requires side { IsTrue (is_side p side.now) }
     requires facts { IsTrue (list_all is_fact facts.old.items) }
-    ensures formed { Fits result (results (replace_all_steps p side.now.b side.now.rest facts.old.items)) (λ _. facts.new.items ≡ with_value p side.now.b side.now.rest facts.old.items) }
+    ensures formed { Fits result (results (replace_all_steps p side.now.b side.now.rest facts.old.items))
+        (λ _. facts.new.items ≡ with_value p side.now.b side.now.rest facts.old.items) }
     ensures kept { IfOk result (λ kept. restored kept facts.new.items ≡ facts.old.items) }
     ensures well_formed { IfOk result (λ _. IsTrue (list_all is_fact facts.new.items)) }
 {
@@ -166,7 +178,8 @@ fn side_at(alloc: Global, j: usize) -> Side
 /// Makes the facts those of the child where `p` is far down and `j` modulo the period.
 pub fn put_far(alloc: Global, p: u32, j: usize, facts: &mut Vec<Fact>) -> Result<Kept, BudgetError>
     requires { IsTrue (list_all is_fact facts.old.items) }
-    ensures formed { Fits result (results (far_child_steps p facts.old.items j)) (λ _. facts.new.items ≡ far_child p facts.old.items j) }
+    ensures formed { Fits result (results (far_child_steps p facts.old.items j))
+        (λ _. facts.new.items ≡ far_child p facts.old.items j) }
     ensures kept { IfOk result (λ kept. restored kept facts.new.items ≡ facts.old.items) }
     ensures well_formed { IfOk result (λ _. IsTrue (list_all is_fact facts.new.items)) }
 {

@@ -13,7 +13,7 @@ ghost use Rattle.cooper_rows.specs.Counted.{Fits};
 ghost use Rattle.cooper.specs.Walks as spec;
 ghost use Rattle.cooper.specs.Walks.{valuation_of, side_value, side_value_formed};
 
-use cert_tree::sums::Side;
+use cert_tree::search_tools::Side;
 use cooper_rows::counting::BudgetError;
 use lin_base::{ArithmeticError, Fact, Lin, checked_add, checked_mul, coef, occurs, without};
 use std::alloc::Global;
@@ -41,7 +41,9 @@ fn add_term(
     so_far: &i128,
     term: (u32, i128),
 ) -> Result<i128, ArithmeticError>
-    ensures { let v = valuation_of values.now in Forms result (multiplies term.1 (v term.0) ∷ adds so_far.now (term.1 *ℤ v term.0) ∷ []) (so_far.now +ℤ term.1 *ℤ v term.0) }
+    ensures { let v = valuation_of values.now in
+        Forms result (multiplies term.1 (v term.0) ∷ adds so_far.now (term.1 *ℤ v term.0) ∷ [])
+        (so_far.now +ℤ term.1 *ℤ v term.0) }
 {
     let multiple = checked_mul(term.1, value_at(values, term.0))?;
     Ok(checked_add(*so_far, multiple)?)
@@ -50,7 +52,8 @@ fn add_term(
 /// The value of a sum.
 #[tactic(auto, using(crate::proofs::Places::placing))]
 fn formed_value(values: &[(u32, i128)], t: &Lin) -> Result<i128, ArithmeticError>
-    ensures { let v = valuation_of values.now in Forms result (value_steps v t.now) (sum.value v t.now) }
+    ensures { let v = valuation_of values.now in
+        Forms result (value_steps v t.now) (sum.value v t.now) }
 {
     let mut so_far = 0;
     for term in t.coefs.as_slice() {
@@ -75,7 +78,8 @@ fn quotient_down(a: i128, b: i128) -> i128
 #[tactic(auto, using(crate::proofs::Places::placing))]
 pub fn value_by(values: &[(u32, i128)], side: &Side) -> Result<i128, BudgetError>
     requires { is_zero side.now.b ≡ false }
-    ensures { let v = valuation_of values.now in Fits result (side_value_formed side.now v) (λ z. z ≡ side_value side.now v) }
+    ensures { let v = valuation_of values.now in
+        Fits result (side_value_formed side.now v) (λ z. z ≡ side_value side.now v) }
 {
     let at = formed_value(values, &side.rest)?;
     Ok(quotient_down(at, side.b))
@@ -97,7 +101,10 @@ fn opposite(z: i128) -> Result<i128, BudgetError>
 fn top_in(alloc: Global, p: u32, values: &[(u32, i128)], t: &Lin) -> Result<i128, BudgetError>
     requires value { IsTrue (is_lin t.now) }
     requires occurring { IsTrue (sum.occurs p t.now) }
-    ensures { let v = valuation_of values.now in let top = div_floor (neg_ℤ (sum.value v (sum.without p t.now))) (sum.coef p t.now) in Fits result (results (value_steps v (sum.without p t.now)) ++ neg_ℤ (sum.value v (sum.without p t.now)) ∷ top ∷ []) (λ z. z ≡ top) }
+    ensures { let v = valuation_of values.now in
+        let top = div_floor (neg_ℤ (sum.value v (sum.without p t.now))) (sum.coef p t.now) in
+        Fits result (results (value_steps v (sum.without p t.now)) ++ neg_ℤ (sum.value v (sum.without p t.now)) ∷ top ∷ [])
+        (λ z. z ≡ top) }
 {
     let rest = without(alloc, p, t)?;
     let at = formed_value(values, &rest)?;
@@ -114,7 +121,8 @@ fn top_of(
     fact: &Fact,
 ) -> Result<Option<i128>, BudgetError>
     requires { IsTrue (is_fact fact.now) }
-    ensures { let v = valuation_of values.now in Fits result (search.top_formed p v fact.now) (λ o. o ≡ search.top_of p v fact.now) }
+    ensures { let v = valuation_of values.now in
+        Fits result (search.top_formed p v fact.now) (λ o. o ≡ search.top_of p v fact.now) }
 {
     match fact {
         Fact::AtMostZero(t) => {
@@ -148,7 +156,9 @@ fn least_top(
     facts: &[Fact],
 ) -> Result<Option<i128>, BudgetError>
     requires { IsTrue (list_all is_fact facts.now) }
-    ensures { let v = valuation_of values.now in Fits result (flat_map (search.top_formed p v) facts.now) (λ o. o ≡ search.least_of (filter_map (search.top_of p v) facts.now)) }
+    ensures { let v = valuation_of values.now in
+        Fits result (flat_map (search.top_formed p v) facts.now)
+        (λ o. o ≡ search.least_of (filter_map (search.top_of p v) facts.now)) }
 {
     match facts {
         [] => Ok(None),
@@ -219,21 +229,33 @@ fn value_below(top: Option<i128>, j: i128, d: i128) -> Result<i128, BudgetError>
     }
 }
 
-/// The value of `p` where it is far down and `j` modulo `d`: the greatest such number at which all AtMostZero facts with `p` hold, or `j`.
+/// Where a parameter is far down: with this remainder modulo the period.
+#[derive(Debug, Drop)]
+pub struct Far {
+    /// The parameter.
+    pub p: u32,
+    /// The remainder.
+    pub j: i128,
+    /// The period.
+    pub d: i128,
+}
+
+/// The value of a parameter that is far down: the greatest number of its remainder at which all AtMostZero facts with it
+/// hold, or the remainder.
 #[tactic(auto, using(crate::proofs::Places::placing))]
 pub fn far_value(
     alloc: Global,
-    p: u32,
+    far: &Far,
     values: &[(u32, i128)],
     facts: &[Fact],
-    j: &i128,
-    d: &i128,
 ) -> Result<i128, BudgetError>
-    requires remainder { pos 0 ≤ℤ j.now }
-    requires below { j.now <ℤ d.now }
+    requires remainder { pos 0 ≤ℤ far.now.j }
+    requires below { far.now.j <ℤ far.now.d }
     requires facts { IsTrue (list_all is_fact facts.now) }
-    ensures { let v = valuation_of values.now in Fits result (spec.far_formed p facts.now j.now d.now v) (λ z. z ≡ spec.far_at p facts.now j.now d.now v) }
+    ensures { let v = valuation_of values.now in
+        Fits result (spec.far_formed far.now.p facts.now far.now.j far.now.d v)
+        (λ z. z ≡ spec.far_at far.now.p facts.now far.now.j far.now.d v) }
 {
-    let top = least_top(alloc, p, values, facts)?;
-    value_below(top, *j, *d)
+    let top = least_top(alloc, far.p, values, facts)?;
+    value_below(top, far.j, far.d)
 }

@@ -16,10 +16,9 @@ ghost use Rattle.cooper_rows.specs.Rows.{completed, step_of, moved_row, bound_ro
 
 use crate::counting::{BudgetError, length_of, take};
 use cert_tree::Row;
-use cert_tree::completing::formed_upper;
-use cert_tree::rows::{formed_far_down, formed_instance, has_upper_bound};
-use cert_tree::sums::Side;
-use cert_tree::test_points::{Bound, moved_up, period};
+use cert_tree::search_tools::{
+    Bound, Side, formed_far_down, formed_instance, formed_upper, has_upper_bound, move_up, period,
+};
 use lin_base::{ArithmeticError, Fact, above, checked_mul, number as numeral};
 use sqlite_items::Items;
 use std::alloc::{AllocError, Global};
@@ -83,9 +82,10 @@ fn formed_step(
 ) -> Result<Step, ArithmeticError>
     requires bound { IsTrue (is_side x bound.now) }
     requires clause { IsTrue (list_all is_fact clause.now) }
-    ensures { Forms result (spec.moved_steps x clause.now bound.now.b bound.now.rest j) (step_of clause.now (moved_row number x bound.now.b bound.now.rest j)) }
+    ensures { Forms result (spec.moved_steps x clause.now bound.now.b bound.now.rest j)
+        (step_of clause.now (moved_row number x bound.now.b bound.now.rest j)) }
 {
-    let moved = moved_up(alloc, x, bound, j)?;
+    let moved = move_up(alloc, x, bound, j)?;
     let clause = formed_instance(alloc, x, &moved.b, &moved.rest, clause)?;
     let Side { b, rest } = moved;
     let row = Row::Inst {
@@ -108,7 +108,8 @@ fn formed_instances_at(
 ) -> Result<Completed, ArithmeticError>
     requires bound { IsTrue (is_side x bound.now) }
     requires clause { IsTrue (list_all is_fact clause.now) }
-    ensures { Forms result (flat_map (spec.moved_steps x clause.now bound.now.b bound.now.rest) (count_from 0 count)) (completed clause.now (map (moved_row number x bound.now.b bound.now.rest) (count_from 0 count))) }
+    ensures { Forms result (flat_map (spec.moved_steps x clause.now bound.now.b bound.now.rest) (count_from 0 count))
+        (completed clause.now (map (moved_row number x bound.now.b bound.now.rest) (count_from 0 count))) }
 {
     let mut made = none(alloc);
     for j in 0..count {
@@ -143,7 +144,9 @@ fn instances(
     requires d { pos 1 ≤ℤ d.now }
     requires side { IsTrue (is_side x side.now) }
     requires clause { IsTrue (list_all is_fact clause.now) }
-    ensures { Counted result room.old room.new (length (bound_rows number x d.now side.now)) (results (spec.instances_steps x clause.now d.now side.now.b side.now.rest)) (λ v. v ≡ completed clause.now (bound_rows number x d.now side.now)) }
+    ensures { Counted result room.old room.new (length (bound_rows number x d.now side.now))
+        (results (spec.instances_steps x clause.now d.now side.now.b side.now.rest))
+        (λ v. v ≡ completed clause.now (bound_rows number x d.now side.now)) }
 {
     let bound = formed_above_bound(alloc, d, side)?;
     take(room, &bound.children)?;
@@ -165,7 +168,9 @@ fn literal(
     requires d { pos 1 ≤ℤ d.now }
     requires fact { IsTrue (is_fact fact.now) }
     requires clause { IsTrue (list_all is_fact clause.now) }
-    ensures { Counted result room.old room.new (length (literal_rows number x d.now (spec.upper x fact.now))) (results (spec.literal_steps x clause.now d.now (spec.upper x fact.now))) (λ v. v ≡ completed clause.now (literal_rows number x d.now (spec.upper x fact.now))) }
+    ensures { Counted result room.old room.new (length (literal_rows number x d.now (spec.upper x fact.now)))
+        (results (spec.literal_steps x clause.now d.now (spec.upper x fact.now)))
+        (λ v. v ≡ completed clause.now (literal_rows number x d.now (spec.upper x fact.now))) }
 {
     match formed_upper(alloc, x, fact)? {
         Some(side) => instances(alloc, room, number, x, d, &side, clause),
@@ -184,7 +189,9 @@ fn uppers(
 ) -> Result<Completed, BudgetError>
     requires d { pos 1 ≤ℤ d.now }
     requires clause { IsTrue (list_all is_fact clause.now) }
-    ensures { Counted result room.old room.new (length (uppers_rows number x d.now clause.now)) (results (spec.uppers_steps x clause.now d.now clause.now)) (λ v. v ≡ completed clause.now (uppers_rows number x d.now clause.now)) }
+    ensures { Counted result room.old room.new (length (uppers_rows number x d.now clause.now))
+        (results (spec.uppers_steps x clause.now d.now clause.now))
+        (λ v. v ≡ completed clause.now (uppers_rows number x d.now clause.now)) }
 {
     let mut made = none(alloc);
     for fact in clause {
@@ -225,7 +232,8 @@ fn formed_lows_at(
     clause: &[Fact],
 ) -> Result<Completed, ArithmeticError>
     requires { IsTrue (list_all is_fact clause.now) }
-    ensures { Forms result (spec.numbered_low_steps x clause.now (count_from 0 count)) (completed clause.now (low_rows number x (count_from 0 count))) }
+    ensures { Forms result (spec.numbered_low_steps x clause.now (count_from 0 count))
+        (completed clause.now (low_rows number x (count_from 0 count))) }
 {
     let mut made = none(alloc);
     for j in 0..count {
@@ -246,7 +254,9 @@ fn lows(
 ) -> Result<Completed, BudgetError>
     requires d { pos 1 ≤ℤ d.now }
     requires clause { IsTrue (list_all is_fact clause.now) }
-    ensures { Counted result room.old room.new (length (lows_rows number x d.now clause.now)) (results (spec.lows_steps x clause.now d.now)) (λ v. v ≡ completed clause.now (lows_rows number x d.now clause.now)) }
+    ensures { Counted result room.old room.new (length (lows_rows number x d.now clause.now))
+        (results (spec.lows_steps x clause.now d.now))
+        (λ v. v ≡ completed clause.now (lows_rows number x d.now clause.now)) }
 {
     if has_upper_bound(x, clause) {
         return Ok(none(alloc));
@@ -268,7 +278,9 @@ fn rows(
 ) -> Result<Completed, BudgetError>
     requires d { pos 1 ≤ℤ d.now }
     requires clause { IsTrue (list_all is_fact clause.now) }
-    ensures { Counted result room.old room.new (length (rows_by number x d.now clause.now)) (results (rows_steps x d.now clause.now)) (λ v. v ≡ completed clause.now (rows_by number x d.now clause.now)) }
+    ensures { Counted result room.old room.new (length (rows_by number x d.now clause.now))
+        (results (rows_steps x d.now clause.now))
+        (λ v. v ≡ completed clause.now (rows_by number x d.now clause.now)) }
 {
     let mut made = uppers(alloc, room, number, x, d, clause)?;
     let low = lows(alloc, room, number, x, d, clause)?;
@@ -285,7 +297,9 @@ pub fn complete(
     clause: &[Fact],
 ) -> Result<Completed, BudgetError>
     requires { IsTrue (list_all is_fact clause.now) }
-    ensures formed { Counted result room.old room.new (length (spec.complete_rows number x clause.now)) (results (spec.complete_steps x clause.now)) (λ v. v ≡ completed clause.now (spec.complete_rows number x clause.now)) }
+    ensures formed { Counted result room.old room.new (length (spec.complete_rows number x clause.now))
+        (results (spec.complete_steps x clause.now))
+        (λ v. v ≡ completed clause.now (spec.complete_rows number x clause.now)) }
     ensures well_formed { IfOk result (λ v. IsTrue (list_all (list_all is_fact) v.clauses)) }
 {
     match period(x, clause)? {

@@ -9,8 +9,7 @@ ghost use Rattle.cooper_rows.specs.Rows.{Grounded, are_facts};
 use crate::completing::{Completed, complete};
 use crate::counting::{BudgetError, number_after};
 use cert_tree::Row;
-use cert_tree::rows::occurs_in;
-use cert_tree::variables::variables;
+use cert_tree::search_tools::{occurs_in, variables};
 use lin_base::{Fact, Pool, copy_facts};
 use sqlite_items::Items;
 use std::alloc::{AllocError, Global};
@@ -68,7 +67,8 @@ fn with_rows(completed: Completed, rest: GroundPool) -> Result<GroundPool, Alloc
     })
 }
 
-/// Grounds the clause of this number by Complete for each of these variables that it has, one after the other. The next row has the number `next`.
+/// Grounds the clause of this number by Complete for each of these variables that it has, one after the other. The next
+/// row has the number `next`.
 #[cycle(ground_by)]
 fn ground_by(
     alloc: Global,
@@ -108,7 +108,8 @@ fn ground_each(
     clauses: &[Items<Fact>],
 ) -> Result<GroundPool, BudgetError>
     requires { IsTrue (list_all (list_all is_fact) clauses.now) }
-    ensures formed { Grounded result room.old room.new (spec.ground_each (spec.ground_by variables.now) next (enumerate_from first clauses.now)) }
+    ensures formed { Grounded result room.old room.new
+        (spec.ground_each (spec.ground_by variables.now) next (enumerate_from first clauses.now)) }
     ensures well_formed { IfOk result (λ g. IsTrue (are_facts g.clauses)) }
 {
     let mut made = nothing(alloc);
@@ -148,7 +149,8 @@ fn ground_clauses(
     clauses: &[Items<Fact>],
 ) -> Result<GroundPool, BudgetError>
     requires { IsTrue (list_all (list_all is_fact) clauses.now) }
-    ensures formed { Grounded result room.old room.new (spec.ground_each (spec.ground_clause params) (length clauses.now) (enumerate_from 0 clauses.now)) }
+    ensures formed { Grounded result room.old room.new
+        (spec.ground_each (spec.ground_clause params) (length clauses.now) (enumerate_from 0 clauses.now)) }
     ensures well_formed { IfOk result (λ g. IsTrue (are_facts g.clauses)) }
 {
     let mut made = nothing(alloc);
@@ -163,7 +165,8 @@ fn ground_clauses(
     Ok(made)
 }
 
-/// Grounds a pool. Each row is counted; Wide only where a step of the grounding leaves the range, Spent only where there are more rows than the room.
+/// Grounds a pool. Each row is counted; Wide only where a step of the grounding leaves the range, Spent only where
+/// there are more rows than the room.
 pub fn ground(alloc: Global, room: &mut u64, pool: &Pool) -> Result<GroundPool, BudgetError>
     requires { IsTrue (is_pool pool.now) }
     ensures formed { Grounded result room.old room.new (spec.grounding pool.now) }

@@ -8,9 +8,11 @@ use sqlite_items::Items;
 use std::alloc::{AllocError, Global};
 use std::marker::Model;
 
-/// A judge by Cooper's elimination (Cooper 1972). Contracts see it as the list of the numbers of the queries that it was asked.
-#[derive(Debug, Drop)]
+/// A judge by Cooper's elimination (Cooper 1972). Contracts see it as the list of the numbers of the queries that it
+/// was asked.
+#[derive(Drop)]
 pub struct CooperJudge {
+    alloc: Global,
     asked: Items<u64>,
 }
 
@@ -28,6 +30,7 @@ impl CooperJudge {
         ensures { result ≡ [] }
     {
         CooperJudge {
+            alloc,
             asked: Items::new(alloc),
         }
     }
@@ -36,9 +39,9 @@ impl CooperJudge {
 impl Judge for CooperJudge {
     ghost numbers = { λ j. j };
 
-    fn judge(&mut self, alloc: Global, query: &Query, limit: u64) -> Result<Verdict, AllocError> {
+    fn judge(&mut self, query: &Query, limit: u64) -> Result<Verdict, AllocError> {
         self.asked.push(query.number)?;
-        decide(alloc, &query.pool, limit)
+        decide(self.alloc, &query.pool, limit)
     }
 
     fn asked(&self, at: u64) -> Option<u64> {

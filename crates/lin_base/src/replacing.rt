@@ -43,7 +43,7 @@ fn replace_in(alloc: Global, x: u32, a: i128, t: &Lin, sum: &Lin) -> Result<Lin,
 }
 
 /// The fact of the same kind about `sum`, a modulus multiplied by `a`.
-fn remade(a: i128, sum: Lin, fact: &Fact) -> Result<Fact, Wide>
+fn with_sum(a: i128, sum: Lin, fact: &Fact) -> Result<Fact, Wide>
     ensures { result ≡ formed_by (modulus_steps a fact.now) (spec.remade a sum fact.now) }
 {
     match fact {
@@ -55,7 +55,13 @@ fn remade(a: i128, sum: Lin, fact: &Fact) -> Result<Fact, Wide>
 }
 
 /// `replace` of a fact with `x`.
-fn replaced(alloc: Global, fact: &Fact, x: u32, a: i128, t: &Lin) -> Result<Fact, ArithmeticError>
+fn replace_occurring(
+    alloc: Global,
+    fact: &Fact,
+    x: u32,
+    a: i128,
+    t: &Lin,
+) -> Result<Fact, ArithmeticError>
     requires value { IsTrue (is_lin t.now) }
     requires sum { IsTrue (is_lin (sum_of fact.now)) }
     ensures fact { Forms result
@@ -65,7 +71,7 @@ fn replaced(alloc: Global, fact: &Fact, x: u32, a: i128, t: &Lin) -> Result<Fact
         WantsNoMemory result }
 {
     let sum = replace_in(alloc, x, a, t, fact.sum())?;
-    Ok(remade(a, sum, fact)?)
+    Ok(with_sum(a, sum, fact)?)
 }
 
 /// The fact with `t` in place of `a * x`: a fact without `x` stays, the sum `b * x + u` becomes
@@ -91,7 +97,7 @@ pub fn replace(
     ensures well_formed { IfOk result (λ r. IsTrue (is_fact r)) }
 {
     if occurs(x, fact.sum()) {
-        replaced(alloc, fact, x, a, t)
+        replace_occurring(alloc, fact, x, a, t)
     } else {
         Ok(fact.copy(alloc)?)
     }
@@ -122,7 +128,7 @@ fn tight_by(alloc: Global, divisor: u128, t: &Lin) -> Result<Lin, AllocError>
     })
 }
 
-fn tightened(alloc: Global, fact: &Fact) -> Result<Fact, AllocError>
+fn tighten(alloc: Global, fact: &Fact) -> Result<Fact, AllocError>
     ensures value { IfOk result (λ r. r ≡ spec.tight fact.now) }
     ensures memory { has_unknown (sum_of fact.now) ≡ false → IsOk result }
 {
@@ -144,5 +150,5 @@ pub fn tight(alloc: Global, fact: &Fact) -> Result<Fact, AllocError>
     ensures solutions { IfOk result (λ r. (v : Valuation) → holds v r ≡ holds v fact.now) }
     ensures well_formed { IsTrue (is_fact fact.now) → IfOk result (λ r. IsTrue (is_fact r)) }
 {
-    tightened(alloc, fact)
+    tighten(alloc, fact)
 }

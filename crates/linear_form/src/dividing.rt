@@ -37,7 +37,7 @@ fn without_front(alloc: Global, t: &Lin) -> Result<Lin, AllocError>
 #[tactic(auto, using(crate::proofs::Divided::divided_steps))]
 /// The sum divided by the common divisor of all its numbers; a sum without a number other than 0
 /// stays. The constant is divided as one coefficient more, by what tightens inequalities.
-pub(crate) fn divided(alloc: Global, t: &Lin) -> Result<Lin, AllocError>
+pub(crate) fn divide(alloc: Global, t: &Lin) -> Result<Lin, AllocError>
     ensures { IfOk result (λ r. r ≡ divided t.now) }
 {
     let fact = Fact::AtMostZero(with_constant_in_front(alloc, t)?);

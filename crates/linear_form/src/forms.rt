@@ -10,7 +10,7 @@ ghost use Rattle.linear_form.specs.FormOf.{form_at};
 ghost use Rattle.linear_form.specs.Normal.{narrow_form, form_of};
 
 use crate::collecting::place;
-use crate::dividing::divided;
+use crate::dividing::divide;
 use crate::linear_forms::{LinearForm, linear};
 use lin_base::{ArithmeticError, Fact, Lin, tight};
 use sqlite_items::Items;
@@ -42,14 +42,14 @@ fn is_inequality(l: &Literal) -> bool
 }
 
 /// The sum of a literal, tightened or divided.
-fn reduced(alloc: Global, l: &Literal, t: &Lin) -> Result<Lin, AllocError>
+fn reduce(alloc: Global, l: &Literal, t: &Lin) -> Result<Lin, AllocError>
     ensures { IfOk result (λ r. r ≡ spec.reduced_by (lit l.now).relation t.now) }
 {
     if is_inequality(l) {
         let fact = tight(alloc, &Fact::AtMostZero(t.copy(alloc)?))?;
         fact.sum().copy(alloc)
     } else {
-        divided(alloc, t)
+        divide(alloc, t)
     }
 }
 
@@ -74,7 +74,7 @@ fn form_from(alloc: Global, l: &Literal, linear: LinearForm) -> Result<Form, All
     ensures { IfOk result (λ f. form_at f
         ≡ spec.form (lit l.now).relation (map tree linear.terms) linear.sum) }
 {
-    let reduced = reduced(alloc, l, &linear.sum)?;
+    let reduced = reduce(alloc, l, &linear.sum)?;
     let turned = is_turned(l, &reduced);
     Ok(Form {
         terms: linear.terms,

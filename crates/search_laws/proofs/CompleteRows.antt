@@ -1,8 +1,7 @@
 -- The rows of Complete stand on their clause where its steps stay in the range, and give clauses without the variable.
 use Rattle.std.specs.Prelude.{◌≡◌, ℕ, ◌==◌, nat_lt, nat_le, ℤ, pos, ◌*ℤ◌, Bool, true, false, not, ◌&&◌, IsTrue, IfSome, option_map, List, [], ◌∷◌, ◌++◌, map, Option, Some, None}
 use Rattle.std.specs.List.{list_all, list_any, filter_map, flat_map, cons_option, AllByRecursion}
-use Rattle.std.proofs.Common.{refl, ap, inl, inr, arith}
-use Rattle.std.proofs.lemmas.Int.{ints}
+use Rattle.std.proofs.Common.{refl, ap, inl, inr}
 use Rattle.std.proofs.lemmas.Bool.{cases_Bool, and_parts, and_from}
 use Rattle.lin_base.specs.declared.sums.Lin.{Lin}
 use Rattle.lin_base.specs.declared.facts.Fact.{Fact}
@@ -110,7 +109,7 @@ module _ (params n x : ℕ) (clause : List Fact) (test other : ℕ → Bool) (mo
   lows_stand none [] narrow = tt
   lows_stand none (j ∷ js) narrow =
       let parts = narrow_parts (low_steps x (pos j) clause) (numbered_low_steps x clause js) narrow in
-      let allowed = and_from _ _ (and_from _ _ is_variable (ap not none)) (le_in (pos 0) (pos j) (omega (arith, ints))) in
+      let allowed = and_from _ _ is_variable (ap not none) in
       ((refl, and_from _ _ allowed parts.0, (over-low_at test other x more (pos j) clause fit.0, is_fact-low_at x (pos j) clause fit.1)), lows_stand none js parts.1)
 
   all_lows_stand : is_narrow (lows_steps x clause (period x clause)) ≡ true → AllByRecursion RowStands (lows n x clause)

@@ -1,4 +1,5 @@
-//! That the stated search of a pool is right: a search that closed gives a certificate that stands, and the values of one that didn't are values of the pool.
+//! That the stated search of a pool is right: a search that closed gives a certificate that stands, and the values of
+//! one that didn't are values of the pool.
 #![tactic(auto)]
 
 mod laws;

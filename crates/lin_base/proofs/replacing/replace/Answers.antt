@@ -18,11 +18,11 @@ returns-then-occurs-clause-replaced c =
     let x = c.args.x in
     let t = c.args.t.now in
     let f = c.args.fact.now in
-    let P : ℤ → Type 0 = λ a. Forms c.replaced.result (replace_in_steps x a t (sum_of f) ++ modulus_steps a f) (replaced x a t f) in
-    let told : P (to_z w128 (of_z w128 c.args.a)) = c.replaced.ensures.fact in
+    let P : ℤ → Type 0 = λ a. Forms c.replace_occurring.result (replace_in_steps x a t (sum_of f) ++ modulus_steps a f) (replaced x a t f) in
+    let told : P (to_z w128 (of_z w128 c.args.a)) = c.replace_occurring.ensures.fact in
     let is : occurs x (sum_of f) ≡ true = grind (arith, common_steps) in
     let a = c.args.a in
-    let Q : Bool → Type 0 = λ b. Forms c.replaced.result (cond b (replace_in_steps x a t (sum_of f) ++ modulus_steps a f) []) (cond b (replaced x a t f) f) in
+    let Q : Bool → Type 0 = λ b. Forms c.replace_occurring.result (cond b (replace_in_steps x a t (sum_of f) ++ modulus_steps a f) []) (cond b (replaced x a t f) f) in
     subst Q (sym is) (subst P (to_z-of_z _ _ c.ranges.a) told)
 
 pub returns-then-occurs-clause-well_formed : goal.returns-then-occurs-clause-well_formed
@@ -31,10 +31,10 @@ returns-then-occurs-clause-well_formed c =
     let t = c.args.t.now in
     let f = c.args.fact.now in
     let a = c.args.a in
-    let P : ℤ → Type 0 = λ a. Forms c.replaced.result (replace_in_steps x a t (sum_of f) ++ modulus_steps a f) (replaced x a t f) in
-    let told : P (to_z w128 (of_z w128 a)) = c.replaced.ensures.fact in
+    let P : ℤ → Type 0 = λ a. Forms c.replace_occurring.result (replace_in_steps x a t (sum_of f) ++ modulus_steps a f) (replaced x a t f) in
+    let told : P (to_z w128 (of_z w128 a)) = c.replace_occurring.ensures.fact in
     let R : Fact → Type 0 = λ g. IsTrue (is_fact g) in
-    Forms-value R c.replaced.result (replace_in_steps x a t (sum_of f) ++ modulus_steps a f) (replaced x a t f) (subst P (to_z-of_z _ _ c.ranges.a) told)
+    Forms-value R c.replace_occurring.result (replace_in_steps x a t (sum_of f) ++ modulus_steps a f) (replaced x a t f) (subst P (to_z-of_z _ _ c.ranges.a) told)
     (is_fact-replaced x a t f c.requires.positive c.requires.value c.requires.fact)
 
 pub returns-in_err-copy-clause-memory : goal.returns-in_err-copy-clause-memory

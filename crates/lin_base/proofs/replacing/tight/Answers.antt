@@ -13,9 +13,9 @@ if_ok P Q step (Err e) h = tt
 pub returns-clause-solutions : goal.returns-clause-solutions
 returns-clause-solutions c =
     let f = c.args.fact.now in
-    if_ok (λ r. r ≡ tight f) (λ r. (v : Valuation) → holds v r ≡ holds v f) (λ r e v. ap (holds v) e ∙ tight_keeps v f) _ c.tightened.ensures.value
+    if_ok (λ r. r ≡ tight f) (λ r. (v : Valuation) → holds v r ≡ holds v f) (λ r e v. ap (holds v) e ∙ tight_keeps v f) _ c.tighten.ensures.value
 
 pub returns-clause-well_formed : goal.returns-clause-well_formed
 returns-clause-well_formed c =
     let f = c.args.fact.now in
-    λ h. if_ok (λ r. r ≡ tight f) (λ r. IsTrue (is_fact r)) (λ r e. ap is_fact e ∙ is_fact-tight f h) _ c.tightened.ensures.value
+    λ h. if_ok (λ r. r ≡ tight f) (λ r. IsTrue (is_fact r)) (λ r e. ap is_fact e ∙ is_fact-tight f h) _ c.tighten.ensures.value
