@@ -9,7 +9,7 @@ use term_base::{Term, Variable};
 /// A formula over terms: the truth values, a predicate, an equation, the inequalities `s < t` and `s <= t`
 /// between terms of sort Int, the connectives, and the quantifiers with their variables. In a formula that was
 /// read, the id of a bound variable is the number of its binder, counted from 0 in reading order.
-#[derive(Debug, Drop)]
+#[derive(Drop)]
 pub enum Formula {
     True,
     False,
@@ -38,14 +38,18 @@ impl Formula {
     pub fn implication(alloc: Global, from: Formula, to: Formula) -> Result<Formula, AllocError>
         ensures { IfOk result (λ f. f ≡ Formula.Implies from to) }
     {
-        Ok(Formula::Implies(Boxed::new(alloc, from)?, Boxed::new(alloc, to)?))
+        let from = Boxed::new(alloc, from);
+        let to = Boxed::new(alloc, to);
+        Ok(Formula::Implies(from?, to?))
     }
 
     /// The equivalence of two formulas.
     pub fn equivalence(alloc: Global, left: Formula, right: Formula) -> Result<Formula, AllocError>
         ensures { IfOk result (λ f. f ≡ Formula.Iff left right) }
     {
-        Ok(Formula::Iff(Boxed::new(alloc, left)?, Boxed::new(alloc, right)?))
+        let left = Boxed::new(alloc, left);
+        let right = Boxed::new(alloc, right);
+        Ok(Formula::Iff(left?, right?))
     }
 
     /// A formula for all values of these variables.
@@ -56,7 +60,8 @@ impl Formula {
     ) -> Result<Formula, AllocError>
         ensures { IfOk result (λ f. f ≡ Formula.All variables body) }
     {
-        Ok(Formula::All(variables, Boxed::new(alloc, body)?))
+        let body = Boxed::new(alloc, body)?;
+        Ok(Formula::All(variables, body))
     }
 
     /// A formula for some values of these variables.
@@ -67,52 +72,7 @@ impl Formula {
     ) -> Result<Formula, AllocError>
         ensures { IfOk result (λ f. f ≡ Formula.Some variables body) }
     {
-        Ok(Formula::Some(variables, Boxed::new(alloc, body)?))
+        let body = Boxed::new(alloc, body)?;
+        Ok(Formula::Some(variables, body))
     }
-
-    /// A formula that equals this one.
-    #[cycle(copy)]
-    pub fn copy(&self, alloc: Global) -> Result<Formula, AllocError>
-        ensures { IfOk result (λ f. f ≡ self.now) }
-    {
-        match self {
-            Formula::True => Ok(Formula::True),
-            Formula::False => Ok(Formula::False),
-            Formula::Atom(t) => Ok(Formula::Atom(t.copy(alloc)?)),
-            Formula::Same(s, t) => Ok(Formula::Same(s.copy(alloc)?, t.copy(alloc)?)),
-            Formula::Less(s, t) => Ok(Formula::Less(s.copy(alloc)?, t.copy(alloc)?)),
-            Formula::LessEq(s, t) => Ok(Formula::LessEq(s.copy(alloc)?, t.copy(alloc)?)),
-            Formula::Not(f) => Formula::negation(alloc, f.get().copy(alloc)?),
-            Formula::And(fs) => Ok(Formula::And(copy_formulas(alloc, fs.as_slice())?)),
-            Formula::Or(fs) => Ok(Formula::Or(copy_formulas(alloc, fs.as_slice())?)),
-            Formula::Implies(f, g) => {
-                let from = f.get().copy(alloc)?;
-                Formula::implication(alloc, from, g.get().copy(alloc)?)
-            }
-            Formula::Iff(f, g) => {
-                let left = f.get().copy(alloc)?;
-                Formula::equivalence(alloc, left, g.get().copy(alloc)?)
-            }
-            Formula::All(vs, f) => {
-                let variables = Items::from_slice(alloc, vs.as_slice())?;
-                Formula::for_all(alloc, variables, f.get().copy(alloc)?)
-            }
-            Formula::Some(vs, f) => {
-                let variables = Items::from_slice(alloc, vs.as_slice())?;
-                Formula::for_some(alloc, variables, f.get().copy(alloc)?)
-            }
-        }
-    }
-}
-
-/// A list of formulas that equals these.
-#[cycle(copy)]
-pub fn copy_formulas(alloc: Global, formulas: &[Formula]) -> Result<Items<Formula>, AllocError>
-    ensures { IfOk result (λ all. all ≡ formulas.now) }
-{
-    let mut all = Items::new(alloc);
-    for formula in formulas {
-        all.push(formula.copy(alloc)?)?;
-    }
-    Ok(all)
 }

@@ -5,9 +5,6 @@ mod formulas;
 mod laws;
 mod problems;
 
-pub use formulas::{Formula, copy_formulas};
+pub use formulas::Formula;
 pub use laws::definitions_give_rows;
 pub use problems::{Problem, copy_symbols};
-
-#[cfg(test)]
-mod tests;

@@ -15,9 +15,6 @@ two_product a b = grind arith
 pub implies_plus : (f g : Formula) → number (Implies f g) true ≡ number f false * number g true
 implies_plus f g = ap (λ (m : Number). m true) (fold-Implies Number number_step f g) ∙ two_product (number f false) (number g true)
 
-pub implies_minus : (f g : Formula) → number (Implies f g) false ≡ number f true + number g false
-implies_minus f g = ap (λ (m : Number). m false) (fold-Implies Number number_step f g) ∙ two_sum (number f true) (number g false)
-
 pub iff_plus : (f g : Formula) → number (Iff f g) true ≡ number f false * number g true + number g false * number f true
 iff_plus f g = ap (λ (m : Number). m true) (fold-Iff Number number_step f g)
     ∙ two_sum (product (number f false ∷ number g true ∷ [])) (product (number g false ∷ number f true ∷ []))

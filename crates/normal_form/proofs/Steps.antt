@@ -1,5 +1,5 @@
--- Steps of the recursion: one member more, and the two parts of an implication and of an equivalence.
-use Rattle.std.proofs.Common.{◌≡◌, ℕ, ◌+◌, Bool, true, false, not, List, [], ◌∷◌, ◌++◌, length, map, fold, take, get_or, ◌<◌, refl, sym, ap, ◌∙◌, append_assoc, length-append}
+-- Steps of the recursion: the two parts of an implication and of an equivalence.
+use Rattle.std.proofs.Common.{◌≡◌, ℕ, ◌+◌, Bool, true, false, not, List, [], ◌∷◌, ◌++◌, length, map, take, get_or, ◌<◌, refl, sym, ap, ◌∙◌, append_assoc, length-append}
 use Rattle.std.specs.Prelude.{if◌then◌else◌, Result, Ok, Err, OnOk}
 use Rattle.std.proofs.lemmas.List.{append-nil, map-id, map-append, take_more}
 use Rattle.term_base.specs.declared.symbols.Symbol.{Symbol}
@@ -8,41 +8,10 @@ use Rattle.formula_base.specs.declared.formulas.Formula.{Formula}
 use Rattle.normal_form.specs.declared.scopes.Scope.{Scope}
 use Rattle.normal_form.specs.Count.{number}
 use Rattle.normal_form.specs.Count as c
-use Rattle.normal_form.specs.Clauses.{Signed, made_from, nothing_bound}
-use Rattle.normal_form.specs.Cnf.{Literals, Meaning, Made, cnf, join, appended, joined, visit, all_symbols, negated, implication, equivalence}
+use Rattle.normal_form.specs.Cnf.{Literals, Meaning, cnf, join, appended, joined, visit, all_symbols, negated, implication, equivalence}
 use Rattle.normal_form.proofs.Counted.{no_implication}
 
 module _ (sign : Bool) (scope : Scope) where
-  -- ---- one member more
-
-  module _ (m : Meaning) (ms : List Meaning) (s a : List Symbol) (p : a ≡ s ++ (m sign scope (length s)).symbols) where
-    abbrev made_first : List Symbol
-    made_first = (m sign scope (length s)).symbols
-
-    here : length a ≡ length s + length made_first
-    here = ap (λ (x : List Symbol). length x) p ∙ length-append s made_first
-
-    pub symbols_step : a ++ all_symbols (visit ms sign scope (length a)) ≡ s ++ all_symbols (visit (m ∷ ms) sign scope (length s))
-    symbols_step =
-        ap (λ (n : ℕ). a ++ all_symbols (visit ms sign scope n)) here
-        ∙ ap (λ (x : List Symbol). x ++ all_symbols (visit ms sign scope (length s + length made_first))) p
-        ∙ append_assoc s made_first (all_symbols (visit ms sign scope (length s + length made_first)))
-
-    pub appended_step : (x y : List Literals) → y ≡ x ++ (m sign scope (length s)).clauses
-        → y ++ appended (map (λ m. m.clauses) (visit ms sign scope (length a))) ≡ x ++ appended (map (λ m. m.clauses) (visit (m ∷ ms) sign scope (length s)))
-    appended_step x y q =
-        ap (λ (n : ℕ). y ++ appended (map (λ m. m.clauses) (visit ms sign scope n))) here
-        ∙ ap (λ (z : List Literals). z ++ appended (map (λ m. m.clauses) (visit ms sign scope (length s + length made_first)))) q
-        ∙ append_assoc x (m sign scope (length s)).clauses (appended (map (λ m. m.clauses) (visit ms sign scope (length s + length made_first))))
-
-    pub joined_step : (x y : List Literals) → y ≡ join x (m sign scope (length s)).clauses
-        → fold join y (map (λ m. m.clauses) (visit ms sign scope (length a))) ≡ fold join x (map (λ m. m.clauses) (visit (m ∷ ms) sign scope (length s)))
-    joined_step x y q =
-        ap (λ (n : ℕ). fold join y (map (λ m. m.clauses) (visit ms sign scope n))) here
-        ∙ ap (λ (z : List Literals). fold join z (map (λ m. m.clauses) (visit ms sign scope (length s + length made_first)))) q
-
-  -- ---- two members
-
   module _ (m n : Meaning) (s a b : List Symbol) (p : a ≡ s ++ (m sign scope (length s)).symbols) (q : b ≡ a ++ (n sign scope (length a)).symbols) where
     second_at : length a ≡ length s + length (m sign scope (length s)).symbols
     second_at = ap (λ (x : List Symbol). length x) p ∙ length-append s (m sign scope (length s)).symbols
@@ -117,28 +86,6 @@ pub equivalence_symbols : (m n : Meaning) (sign : Bool) (scope : Scope) (s a b x
     → x ≡ b ++ (n (not sign) scope (length b)).symbols → y ≡ x ++ (m sign scope (length x)).symbols → y ≡ s ++ (equivalence m n sign scope (length s)).symbols
 equivalence_symbols m n sign scope s a b x y p q u v =
     two_symbols sign scope (implication m n) (implication n m) s b y (implication_symbols m n sign scope s a b p q) (implication_symbols n m sign scope b x y u v)
-
--- ---- the formulas of a problem
-
-module _ (f : Signed) (more : List Signed) (s a : List Symbol) (p : a ≡ s ++ (cnf f.formula f.sign nothing_bound (length s)).symbols) where
-  abbrev first_made : Made
-  first_made = cnf f.formula f.sign nothing_bound (length s)
-
-  next_at : length a ≡ length s + length first_made.symbols
-  next_at = ap (λ (x : List Symbol). length x) p ∙ length-append s first_made.symbols
-
-  pub made_symbols_step : a ++ all_symbols (made_from more (length a)) ≡ s ++ all_symbols (made_from (f ∷ more) (length s))
-  made_symbols_step =
-      ap (λ (n : ℕ). a ++ all_symbols (made_from more n)) next_at
-      ∙ ap (λ (x : List Symbol). x ++ all_symbols (made_from more (length s + length first_made.symbols))) p
-      ∙ append_assoc s first_made.symbols (all_symbols (made_from more (length s + length first_made.symbols)))
-
-  pub made_clauses_step : (x y : List Literals) → y ≡ x ++ first_made.clauses
-      → y ++ appended (map (λ m. m.clauses) (made_from more (length a))) ≡ x ++ appended (map (λ m. m.clauses) (made_from (f ∷ more) (length s)))
-  made_clauses_step x y q =
-      ap (λ (n : ℕ). y ++ appended (map (λ m. m.clauses) (made_from more n))) next_at
-      ∙ ap (λ (z : List Literals). z ++ appended (map (λ m. m.clauses) (made_from more (length s + length first_made.symbols)))) q
-      ∙ append_assoc x first_made.clauses (appended (map (λ m. m.clauses) (made_from more (length s + length first_made.symbols))))
 
 -- ---- lists that grow by one
 

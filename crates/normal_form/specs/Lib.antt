@@ -1,9 +1,11 @@
-pub mod Answer
-pub mod Clauses
+-- The meaning: what public contracts say.
 pub mod Cnf
-pub mod Count
-pub mod Known
-pub mod Lookup
-pub mod Measures
 pub mod Numbering
+pub mod Count
+pub mod Clauses
+pub mod Known
+pub mod Answer
 pub mod Rows
+-- Of private contracts alone.
+pub mod Measures
+pub mod Lookup

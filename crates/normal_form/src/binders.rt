@@ -55,7 +55,8 @@ impl Binders {
 
     /// Leaves the binders that were entered since then.
     pub(crate) fn leave_to(&mut self, depth: Depth)
-        ensures { self.new ≡ record { universal = take depth.universal self.old.universal; terms = take depth.terms self.old.terms } }
+        ensures { self.new
+            ≡ record { universal = take depth.universal self.old.universal; terms = take depth.terms self.old.terms } }
     {
         self.ascending = self.ascending.min(depth.terms);
         self.scope.leave_to(depth);

@@ -30,8 +30,11 @@ impl Conversion {
         formula: &Formula,
         sign: bool,
     ) -> Result<Clauses, AllocError>
-        ensures clauses { IfOk result (λ cs. cs.items ≡ (spec.cnf formula.now sign self.old.scope (length self.old.symbols)).clauses) }
-        ensures symbols { OnOk result (self.new.symbols ≡ self.old.symbols ++ (spec.cnf formula.now sign self.old.scope (length self.old.symbols)).symbols) }
+        ensures clauses { IfOk result
+            (λ cs. cs.items ≡ (spec.cnf formula.now sign self.old.scope (length self.old.symbols)).clauses) }
+        ensures symbols { OnOk result
+            (self.new.symbols
+            ≡ self.old.symbols ++ (spec.cnf formula.now sign self.old.scope (length self.old.symbols)).symbols) }
         ensures scope { OnOk result (self.new.scope ≡ self.old.scope) }
     {
         let measured = measure(alloc, formula)?;
@@ -49,8 +52,12 @@ impl Conversion {
         wanted: bool,
     ) -> Result<Clauses, AllocError>
         requires { measured.now ≡ measures formula.now }
-        ensures clauses { IfOk result (λ cs. cs.items ≡ (if wanted then (spec.cnf formula.now sign self.old.scope (length self.old.symbols)).clauses else [])) }
-        ensures symbols { OnOk result (self.new.symbols ≡ self.old.symbols ++ (spec.cnf formula.now sign self.old.scope (length self.old.symbols)).symbols) }
+        ensures clauses { IfOk result
+            (λ cs. cs.items
+            ≡ (if wanted then (spec.cnf formula.now sign self.old.scope (length self.old.symbols)).clauses else [])) }
+        ensures symbols { OnOk result
+            (self.new.symbols
+            ≡ self.old.symbols ++ (spec.cnf formula.now sign self.old.scope (length self.old.symbols)).symbols) }
         ensures scope { OnOk result (self.new.scope ≡ self.old.scope) }
     {
         if !wanted || measured.counts.of(sign) == 0 {
@@ -117,8 +124,15 @@ impl Conversion {
         sign: bool,
     ) -> Result<Clauses, AllocError>
         requires { parts.now ≡ map measures members.now }
-        ensures clauses { IfOk result (λ cs. cs.items ≡ spec.appended (map (λ m. m.clauses) (spec.visit (map spec.cnf members.now) sign self.old.scope (length self.old.symbols)))) }
-        ensures symbols { OnOk result (self.new.symbols ≡ self.old.symbols ++ spec.all_symbols (spec.visit (map spec.cnf members.now) sign self.old.scope (length self.old.symbols))) }
+        ensures clauses { IfOk result
+            (λ cs. cs.items
+            ≡ spec.appended
+            (map (λ m. m.clauses)
+            (spec.visit (map spec.cnf members.now) sign self.old.scope (length self.old.symbols)))) }
+        ensures symbols { OnOk result
+            (self.new.symbols
+            ≡ self.old.symbols
+            ++ spec.all_symbols (spec.visit (map spec.cnf members.now) sign self.old.scope (length self.old.symbols))) }
         ensures scope { OnOk result (self.new.scope ≡ self.old.scope) }
     {
         let mut all = Vec::new(alloc);
@@ -139,8 +153,15 @@ impl Conversion {
         sign: bool,
     ) -> Result<Clauses, AllocError>
         requires { parts.now ≡ map measures members.now }
-        ensures clauses { IfOk result (λ cs. cs.items ≡ spec.joined (map (λ m. m.clauses) (spec.visit (map spec.cnf members.now) sign self.old.scope (length self.old.symbols)))) }
-        ensures symbols { OnOk result (self.new.symbols ≡ self.old.symbols ++ spec.all_symbols (spec.visit (map spec.cnf members.now) sign self.old.scope (length self.old.symbols))) }
+        ensures clauses { IfOk result
+            (λ cs. cs.items
+            ≡ spec.joined
+            (map (λ m. m.clauses)
+            (spec.visit (map spec.cnf members.now) sign self.old.scope (length self.old.symbols)))) }
+        ensures symbols { OnOk result
+            (self.new.symbols
+            ≡ self.old.symbols
+            ++ spec.all_symbols (spec.visit (map spec.cnf members.now) sign self.old.scope (length self.old.symbols))) }
         ensures scope { OnOk result (self.new.scope ≡ self.old.scope) }
     {
         let mut all = always(alloc, false)?;
@@ -163,8 +184,15 @@ impl Conversion {
         sign: bool,
     ) -> Result<Clauses, AllocError>
         requires { measured.now ≡ measures body.now }
-        ensures clauses { IfOk result (λ cs. cs.items ≡ (spec.quantified universal variables.now (spec.cnf body.now) sign self.old.scope (length self.old.symbols)).clauses) }
-        ensures symbols { OnOk result (self.new.symbols ≡ self.old.symbols ++ (spec.quantified universal variables.now (spec.cnf body.now) sign self.old.scope (length self.old.symbols)).symbols) }
+        ensures clauses { IfOk result
+            (λ cs. cs.items
+            ≡ (spec.quantified universal variables.now (spec.cnf body.now) sign self.old.scope
+            (length self.old.symbols)).clauses) }
+        ensures symbols { OnOk result
+            (self.new.symbols
+            ≡ self.old.symbols
+            ++ (spec.quantified universal variables.now (spec.cnf body.now) sign self.old.scope
+            (length self.old.symbols)).symbols) }
         ensures scope { OnOk result (self.new.scope ≡ self.old.scope) }
     {
         let depth = self.scope.depth();
@@ -184,7 +212,9 @@ impl Conversion {
         sign: bool,
     ) -> Result<(), AllocError>
         requires { measured.now ≡ measures formula.now }
-        ensures symbols { OnOk result (self.new.symbols ≡ self.old.symbols ++ (spec.cnf formula.now sign self.old.scope (length self.old.symbols)).symbols) }
+        ensures symbols { OnOk result
+            (self.new.symbols
+            ≡ self.old.symbols ++ (spec.cnf formula.now sign self.old.scope (length self.old.symbols)).symbols) }
         ensures scope { OnOk result (self.new.scope ≡ self.old.scope) }
     {
         if !measured.quantified {
@@ -241,7 +271,10 @@ impl Conversion {
         sign: bool,
     ) -> Result<(), AllocError>
         requires { parts.now ≡ map measures members.now }
-        ensures symbols { OnOk result (self.new.symbols ≡ self.old.symbols ++ spec.all_symbols (spec.visit (map spec.cnf members.now) sign self.old.scope (length self.old.symbols))) }
+        ensures symbols { OnOk result
+            (self.new.symbols
+            ≡ self.old.symbols
+            ++ spec.all_symbols (spec.visit (map spec.cnf members.now) sign self.old.scope (length self.old.symbols))) }
         ensures scope { OnOk result (self.new.scope ≡ self.old.scope) }
     {
         for (i, member) in members.iter().enumerate() {
@@ -262,7 +295,11 @@ impl Conversion {
         sign: bool,
     ) -> Result<(), AllocError>
         requires { measured.now ≡ measures body.now }
-        ensures symbols { OnOk result (self.new.symbols ≡ self.old.symbols ++ (spec.quantified universal variables.now (spec.cnf body.now) sign self.old.scope (length self.old.symbols)).symbols) }
+        ensures symbols { OnOk result
+            (self.new.symbols
+            ≡ self.old.symbols
+            ++ (spec.quantified universal variables.now (spec.cnf body.now) sign self.old.scope
+            (length self.old.symbols)).symbols) }
         ensures scope { OnOk result (self.new.scope ≡ self.old.scope) }
     {
         let depth = self.scope.depth();
@@ -279,8 +316,14 @@ impl Conversion {
         universal: bool,
         variables: &[Variable],
     ) -> Result<(), AllocError>
-        ensures scope { OnOk result (self.new.scope ≡ (if universal then spec.with_universal variables.now self.old.scope else spec.with_skolem (length self.old.symbols) variables.now self.old.scope)) }
-        ensures symbols { OnOk result (self.new.symbols ≡ self.old.symbols ++ (if universal then [] else map (spec.skolem self.old.scope.universal) variables.now)) }
+        ensures scope { OnOk result
+            (self.new.scope
+            ≡ (if universal then spec.with_universal variables.now self.old.scope else spec.with_skolem
+            (length self.old.symbols) variables.now self.old.scope)) }
+        ensures symbols { OnOk result
+            (self.new.symbols
+            ≡ self.old.symbols
+            ++ (if universal then [] else map (spec.skolem self.old.scope.universal) variables.now)) }
     {
         if universal {
             return self.scope.bind_universal(variables);

@@ -7,7 +7,7 @@ ghost use Rattle.normal_form.specs.Clauses.{count_of};
 use formula_base::{Formula, Problem};
 
 /// How many clauses a formula gives for each sign; 2^64 - 1 stands for that many and more.
-#[derive(Clone, Copy, Debug, PartialEq, Eq)]
+#[derive(Clone, Copy)]
 pub(crate) struct Counts {
     pub(crate) plus: u64,
     pub(crate) minus: u64,

@@ -78,7 +78,8 @@ pub(crate) fn disjoined(
     left: Clauses,
     right: Clauses,
 ) -> Result<Clauses, AllocError>
-    ensures { IfOk result (λ all. all.items ≡ (if joined then join left.items right.items else left.items ++ right.items)) }
+    ensures { IfOk result
+        (λ all. all.items ≡ (if joined then join left.items right.items else left.items ++ right.items)) }
 {
     let mut left = left;
     let mut right = right;

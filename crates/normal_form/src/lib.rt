@@ -21,12 +21,3 @@ pub use laws::{
 pub use preparing::{ClausesError, clauses};
 pub use scopes::Scope;
 pub use term_base::{Prepared, TooMany};
-
-#[cfg(test)]
-mod lazy_tests;
-#[cfg(test)]
-mod skolem_tests;
-#[cfg(test)]
-mod table_tests;
-#[cfg(test)]
-mod tests;

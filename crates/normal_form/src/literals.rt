@@ -47,6 +47,14 @@ pub(crate) fn same(
     }
 }
 
+/// `s + 1 <= t`.
+fn below(alloc: Global, s: Term, t: Term) -> Result<Literal, AllocError>
+    ensures { IfOk result (λ l. l ≡ Literal.AtMost (spec.plus_one s) t) }
+{
+    let next = Term::sum(alloc, s, Term::Num(1))?;
+    Ok(Literal::AtMost(next, t))
+}
+
 /// `s < t` as `s + 1 <= t`, or its negation `t <= s`.
 pub(crate) fn less(
     alloc: Global,
@@ -60,7 +68,7 @@ pub(crate) fn less(
     let s = scope.instance(alloc, s)?;
     let t = scope.instance(alloc, t)?;
     if sign {
-        Ok(Literal::AtMost(Term::sum(alloc, s, Term::Num(1))?, t))
+        below(alloc, s, t)
     } else {
         Ok(Literal::AtMost(t, s))
     }
@@ -81,7 +89,7 @@ pub(crate) fn less_eq(
     if sign {
         Ok(Literal::AtMost(s, t))
     } else {
-        Ok(Literal::AtMost(Term::sum(alloc, t, Term::Num(1))?, s))
+        below(alloc, t, s)
     }
 }
 

@@ -91,12 +91,15 @@ fn over_two(
     first: Measured,
     second: Measured,
 ) -> Result<Measured, AllocError>
-    ensures { IfOk result (λ m. m ≡ spec.node counts (spec.quantified first || spec.quantified second) (first ∷ second ∷ [])) }
+    ensures { IfOk result
+        (λ m. m ≡ spec.node counts (spec.quantified first || spec.quantified second) (first ∷ second ∷ [])) }
 {
     let quantified = first.quantified || second.quantified;
     let mut parts = Items::new(alloc);
-    parts.push(first)?;
-    parts.push(second)?;
+    let first = parts.push(first);
+    let second = parts.push(second);
+    first?;
+    second?;
     Ok(Measured {
         counts,
         quantified,

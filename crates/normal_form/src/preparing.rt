@@ -50,13 +50,22 @@ pub fn clauses(alloc: Global, problem: &Problem, ordinary: bool) -> Result<Prepa
     ensures known { IsWellTyped problem.now → IfOk result HasKnownSymbols }
     ensures counted { IfOk result (λ p. length p.clauses ≡ count_of problem.now) }
     ensures within { OnOk result (count_of problem.now ≤ max_clauses) }
-    ensures too_many { max_clauses < count_of problem.now → result ≡ Err (ClausesError.TooMany (record { count = saturated (count_of problem.now) })) }
+    ensures too_many { max_clauses < count_of problem.now
+        → result ≡ Err (ClausesError.TooMany (record { count = saturated (count_of problem.now) })) }
     ensures refused { IfErr result (IsRefusal (count_of problem.now)) }
 {
     let count = count(problem);
     if count > MAX_CLAUSES {
         return Err(ClausesError::TooMany(TooMany { count }));
     }
+    let prepared = prepare(alloc, problem, ordinary)?;
+    Ok(prepared)
+}
+
+/// The clauses of a problem, however many.
+fn prepare(alloc: Global, problem: &Problem, ordinary: bool) -> Result<Prepared, AllocError>
+    ensures { IfOk result (λ p. p ≡ prepared problem.now ordinary) }
+{
     let converted = convert(alloc, problem)?;
     let symbols = converted.symbols;
     let clauses = numbered_all(alloc, symbols.as_slice(), ordinary, converted.clauses)?;

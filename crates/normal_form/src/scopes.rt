@@ -9,7 +9,7 @@ use term_base::{Name, Sort, Sorts, Symbol, Term, Variable};
 
 /// What is in scope: the universal variables, outermost first, and what stands for each binder's number,
 /// in the order of the binders.
-#[derive(Debug, Drop)]
+#[derive(Drop)]
 pub struct Scope {
     pub universal: Items<Variable>,
     pub terms: Items<(u32, Term)>,
@@ -47,7 +47,8 @@ impl Scope {
 
     /// Leaves the binders that were entered since then.
     pub(crate) fn leave_to(&mut self, depth: Depth)
-        ensures { self.new ≡ record { universal = take depth.universal self.old.universal; terms = take depth.terms self.old.terms } }
+        ensures { self.new
+            ≡ record { universal = take depth.universal self.old.universal; terms = take depth.terms self.old.terms } }
     {
         shorten(&mut self.universal, depth.universal);
         shorten(&mut self.terms, depth.terms);

@@ -9,7 +9,7 @@ use crate::faults::Stop;
 use crate::pieces::{Piece, Sign};
 
 /// What a token is in annotations.
-#[derive(Clone, Copy, Debug, PartialEq, Eq)]
+#[derive(Clone, Copy)]
 enum Note {
     OpenRound,
     CloseRound,

@@ -165,7 +165,8 @@ pub(crate) fn truth_fault(pieces: &Pieces) -> Stop
 pub(crate) fn deeper(pieces: &Pieces, level: usize) -> Result<usize, Stop>
     requires { level ≤ MAX_LEVELS }
     ensures ok { IfOk result (λ inside. (inside ≡ level + 1) × (inside ≤ MAX_LEVELS)) }
-    ensures err { IfErr result (λ e. (level + 1 ≡ 501) × (e ≡ Stop.Fault (record { name = FaultName.TooDeep; left = length pieces.now }))) }
+    ensures err { IfErr result
+        (λ e. (level + 1 ≡ 501) × (e ≡ Stop.Fault (record { name = FaultName.TooDeep; left = length pieces.now }))) }
 {
     if level >= MAX_LEVELS {
         return Err(fault(FaultName::TooDeep, pieces));

@@ -54,14 +54,14 @@ impl From<AllocError> for ParseError {
 }
 
 /// A fault, and how many tokens are left where it stands.
-#[derive(Clone, Copy, Debug, PartialEq, Eq)]
+#[derive(Clone, Copy)]
 pub(crate) struct Found {
     pub(crate) name: FaultName,
     pub(crate) left: usize,
 }
 
 /// Why reading stops.
-#[derive(Clone, Copy, Debug, PartialEq, Eq)]
+#[derive(Clone, Copy)]
 pub(crate) enum Stop {
     Memory,
     Fault(Found),

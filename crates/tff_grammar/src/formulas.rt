@@ -18,7 +18,10 @@ use std::alloc::Global;
 /// A variable that a quantifier binds, and its sort where one is written.
 fn variable<'a>(pieces: &Pieces<'a>, level: usize) -> Result<(Variable, Pieces<'a>), Stop>
     requires { level ≤ MAX_LEVELS }
-    ensures ok { IfOk result (λ (v, rest). (bs : List variables.Variable) → Reads (m.binder ∷ []) (binders_value bs ∷ []) (m.more_binders ∷ []) (binders_value (bs ++ v ∷ []) ∷ []) level pieces.now rest) }
+    ensures ok { IfOk result
+        (λ (v, rest). (bs : List variables.Variable)
+        → Reads (m.binder ∷ []) (binders_value bs ∷ []) (m.more_binders ∷ [])
+        (binders_value (bs ++ v ∷ []) ∷ []) level pieces.now rest) }
     ensures rest { IfOk result (λ (v, rest). length rest < length pieces.now) }
     ensures err { IfErr result (Stops (m.binder ∷ []) [] level pieces.now) }
 {
@@ -50,7 +53,8 @@ fn variables<'a>(
     level: usize,
 ) -> Result<(Items<Variable>, Pieces<'a>), Stop>
     requires { level ≤ MAX_LEVELS }
-    ensures ok { IfOk result (λ (vs, rest). Reads (m.binder ∷ []) (binders_value [] ∷ []) [] (binders_value vs ∷ []) level pieces.now rest) }
+    ensures ok { IfOk result
+        (λ (vs, rest). Reads (m.binder ∷ []) (binders_value [] ∷ []) [] (binders_value vs ∷ []) level pieces.now rest) }
     ensures rest { IfOk result (λ (vs, rest). length rest ≤ length pieces.now) }
     ensures err { IfErr result (Stops (m.binder ∷ []) (binders_value [] ∷ []) level pieces.now) }
 {
@@ -70,7 +74,8 @@ fn variables<'a>(
 /// A term, or two with a sign between them.
 fn atom<'a>(alloc: Global, pieces: &Pieces<'a>, level: usize) -> Result<(Formula, Pieces<'a>), Stop>
     requires { level ≤ MAX_LEVELS }
-    ensures ok { IfOk result (λ (f, rest). Reads (m.term ∷ m.second ∷ []) [] [] (formula_value f ∷ []) level pieces.now rest) }
+    ensures ok { IfOk result
+        (λ (f, rest). Reads (m.term ∷ m.second ∷ []) [] [] (formula_value f ∷ []) level pieces.now rest) }
     ensures rest { IfOk result (λ (f, rest). length rest < length pieces.now) }
     ensures err { IfErr result (Stops (m.term ∷ m.second ∷ []) [] level pieces.now) }
 {
@@ -136,7 +141,8 @@ pub(crate) fn formula<'a>(
     level: usize,
 ) -> Result<(Formula, Pieces<'a>), Stop>
     requires { level ≤ MAX_LEVELS }
-    ensures ok { IfOk result (λ (f, rest). Reads (m.unit ∷ m.tail ∷ []) [] [] (formula_value f ∷ []) level pieces.now rest) }
+    ensures ok { IfOk result
+        (λ (f, rest). Reads (m.unit ∷ m.tail ∷ []) [] [] (formula_value f ∷ []) level pieces.now rest) }
     ensures rest { IfOk result (λ (f, rest). length rest < length pieces.now) }
     ensures err { IfErr result (Stops (m.unit ∷ m.tail ∷ []) [] level pieces.now) }
 {
@@ -169,9 +175,12 @@ fn members<'a>(
     level: usize,
 ) -> Result<(Items<Formula>, Pieces<'a>), Stop>
     requires { level ≤ MAX_LEVELS }
-    ensures ok { IfOk result (λ (fs, rest). Reads (m.unit ∷ m.chain junction ∷ []) (members_value (first ∷ []) ∷ []) [] (formula_value (the_formulas.Joined junction fs) ∷ []) level pieces.now rest) }
+    ensures ok { IfOk result
+        (λ (fs, rest). Reads (m.unit ∷ m.chain junction ∷ []) (members_value (first ∷ []) ∷ []) []
+        (formula_value (the_formulas.Joined junction fs) ∷ []) level pieces.now rest) }
     ensures rest { IfOk result (λ (fs, rest). length rest < length pieces.now) }
-    ensures err { IfErr result (Stops (m.unit ∷ m.chain junction ∷ []) (members_value (first ∷ []) ∷ []) level pieces.now) }
+    ensures err { IfErr result
+        (Stops (m.unit ∷ m.chain junction ∷ []) (members_value (first ∷ []) ∷ []) level pieces.now) }
 {
     let mut members = Vec::new(alloc);
     add(&mut members, first)?;

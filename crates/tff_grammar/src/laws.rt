@@ -16,21 +16,24 @@ pub fn some_answer()
 
 /// A text is read in one way at most.
 pub fn one_text()
-    ensures { (bytes : List ℕ) (first second : List Statement) → IsText bytes first → IsText bytes second → first ≡ second }
+    ensures { (bytes : List ℕ) (first second : List Statement) → IsText bytes first → IsText bytes second
+        → first ≡ second }
 {
     one_scan();
 }
 
 /// A text has at most one first fault.
 pub fn one_fault()
-    ensures { (bytes : List ℕ) (first second : Fault) → IsFirstFault bytes first → IsFirstFault bytes second → first ≡ second }
+    ensures { (bytes : List ℕ) (first second : Fault) → IsFirstFault bytes first → IsFirstFault bytes second
+        → first ≡ second }
 {
     one_scan();
 }
 
 /// A text that can be read has no fault.
 pub fn no_fault_of_text()
-    ensures { (bytes : List ℕ) (statements : List Statement) (fault : Fault) → IsText bytes statements → IsFirstFault bytes fault → ⊥ }
+    ensures { (bytes : List ℕ) (statements : List Statement) (fault : Fault) → IsText bytes statements
+        → IsFirstFault bytes fault → ⊥ }
 {
     one_scan();
 }
@@ -39,7 +42,8 @@ pub fn no_fault_of_text()
 /// the last one's end, and none passes the end of the text. So of faults that stand at such places in this order the first has the
 /// least byte.
 pub fn ascending_places()
-    ensures { (bytes : List ℕ) (statements : List Statement) → IsText bytes statements → PlacesAscend (length bytes) 0 (places statements) }
+    ensures { (bytes : List ℕ) (statements : List Statement) → IsText bytes statements
+        → PlacesAscend (length bytes) 0 (places statements) }
 {
     ascending_spans();
 }

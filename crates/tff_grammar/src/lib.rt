@@ -11,8 +11,6 @@ mod pieces;
 mod reader;
 mod statements;
 mod terms;
-#[cfg(test)]
-mod tests;
 mod tokens;
 mod trees;
 mod types;

@@ -3,7 +3,7 @@ ghost use Rattle.std.specs.Prelude.{◌≡◌};
 ghost use Rattle.tff_grammar.specs.Pieces.{bytes_at};
 
 /// A part of the text: the place of its first byte, and that of the byte behind its last, counted from 0.
-#[derive(Clone, Copy, Debug, PartialEq, Eq)]
+#[derive(Clone, Copy)]
 pub struct Span {
     /// The place of its first byte.
     pub start: u64,
@@ -24,7 +24,7 @@ impl Span {
 }
 
 /// A numeral: the number that it stands for, and where it stands.
-#[derive(Clone, Copy, Debug, PartialEq, Eq)]
+#[derive(Clone, Copy)]
 pub struct Number {
     /// The number.
     pub value: i128,
@@ -33,7 +33,7 @@ pub struct Number {
 }
 
 /// A sign that the grammar names on its own.
-#[derive(Clone, Copy, Debug, PartialEq, Eq)]
+#[derive(Clone, Copy, PartialEq, Eq)]
 pub enum Sign {
     /// `(`
     OpenRound,
@@ -58,7 +58,7 @@ pub enum Sign {
 }
 
 /// A sign that joins two or more formulas (TPTP's associative connectives).
-#[derive(Clone, Copy, Debug, PartialEq, Eq)]
+#[derive(Clone, Copy, PartialEq, Eq)]
 pub enum Junction {
     /// `&`
     And,
@@ -67,7 +67,7 @@ pub enum Junction {
 }
 
 /// A sign that joins two formulas (TPTP's nonassociative connectives).
-#[derive(Clone, Copy, Debug, PartialEq, Eq)]
+#[derive(Clone, Copy)]
 pub enum Link {
     /// `=>`
     Implies,
@@ -84,7 +84,7 @@ pub enum Link {
 }
 
 /// A quantifier.
-#[derive(Clone, Copy, Debug, PartialEq, Eq)]
+#[derive(Clone, Copy)]
 pub enum Quantifier {
     /// `!`
     ForAll,
@@ -93,7 +93,7 @@ pub enum Quantifier {
 }
 
 /// A sign between two terms.
-#[derive(Clone, Copy, Debug, PartialEq, Eq)]
+#[derive(Clone, Copy)]
 pub enum Relation {
     /// `=`
     Equal,
@@ -102,7 +102,7 @@ pub enum Relation {
 }
 
 /// A sort that isn't declared.
-#[derive(Clone, Copy, Debug, PartialEq, Eq)]
+#[derive(Clone, Copy)]
 pub enum BasicSort {
     /// `$i`
     Individual,
@@ -111,7 +111,7 @@ pub enum BasicSort {
 }
 
 /// An arithmetic word of the TPTP.
-#[derive(Clone, Copy, Debug, PartialEq, Eq)]
+#[derive(Clone, Copy)]
 pub enum Operation {
     /// `$sum`
     Sum,
@@ -132,7 +132,7 @@ pub enum Operation {
 }
 
 /// What a lower word may be beside a name.
-#[derive(Clone, Copy, Debug, PartialEq, Eq)]
+#[derive(Clone, Copy)]
 pub enum Keyword {
     /// `tff`
     Tff,
@@ -151,7 +151,7 @@ pub enum Keyword {
 }
 
 /// A token as the grammar sees it.
-#[derive(Clone, Copy, Debug, PartialEq, Eq)]
+#[derive(Clone, Copy)]
 pub enum Piece {
     /// A sign that the grammar names on its own.
     Sign(Sign),

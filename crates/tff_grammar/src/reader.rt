@@ -44,7 +44,8 @@ pub fn parse(alloc: Global, bytes: &[u8]) -> Result<Items<Statement>, ParseError
     ensures ok { IfOk result (IsText bytes.now) }
     ensures fault { IfErr result (Explains bytes.now) }
     // A text without a fault is read, and as no other statements, unless memory runs out.
-    ensures only { (ss : List the_statements.Statement) → IsText bytes.now ss → MatchResult result (λ read. read ≡ ss) (λ e. e ≡ ParseError.Memory) }
+    ensures only { (ss : List the_statements.Statement) → IsText bytes.now ss
+        → MatchResult result (λ read. read ≡ ss) (λ e. e ≡ ParseError.Memory) }
 {
     one_scan();
     token_texts();

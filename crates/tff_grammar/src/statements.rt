@@ -33,7 +33,10 @@ fn content<'a>(
     pieces: &Pieces<'a>,
     again: bool,
 ) -> Result<(Content, Pieces<'a>), Stop>
-    ensures ok { IfOk result (λ (c, rest). (k : Stack) (vs : Values) → go (m.role again ∷ k) vs pieces.now ≡ go (m.ending ∷ m.statements (again_behind again c) ∷ k) (content_values c vs) rest) }
+    ensures ok { IfOk result
+        (λ (c, rest). (k : Stack) (vs : Values)
+        → go (m.role again ∷ k) vs pieces.now
+        ≡ go (m.ending ∷ m.statements (again_behind again c) ∷ k) (content_values c vs) rest) }
     ensures rest { IfOk result (λ (c, rest). length rest ≤ length pieces.now) }
     ensures err { IfErr result (Stops (m.role again ∷ []) [] 0 pieces.now) }
 {
@@ -59,7 +62,9 @@ fn content<'a>(
 
 /// The end of a statement, behind annotations where there are some.
 fn ending<'a>(pieces: &Pieces<'a>) -> Result<Pieces<'a>, Stop>
-    ensures ok { IfOk result (λ rest. (k : Stack) (vs : Values) → m.levels k ≡ 0 → go (m.ending ∷ k) vs pieces.now ≡ go k (m.ending_taken vs) rest) }
+    ensures ok { IfOk result
+        (λ rest. (k : Stack) (vs : Values) → m.levels k ≡ 0
+        → go (m.ending ∷ k) vs pieces.now ≡ go k (m.ending_taken vs) rest) }
     ensures rest { IfOk result (λ rest. length rest ≤ length pieces.now) }
     ensures err { IfErr result (Stops (m.ending ∷ []) [] 0 pieces.now) }
 {
@@ -80,9 +85,13 @@ fn statement<'a>(
     pieces: &Pieces<'a>,
     again: bool,
 ) -> Result<(Statement, Pieces<'a>), Stop>
-    ensures ok { IfOk result (λ (s, rest). (ss : List the_statements.Statement) → go (m.sign Sign.OpenRound ∷ m.a_name ∷ m.sign Sign.Comma ∷ m.role again ∷ []) (file_value ss ∷ []) pieces.now ≡ go (m.statements (again_behind again s.content) ∷ []) (file_value (ss ++ s ∷ []) ∷ []) rest) }
+    ensures ok { IfOk result
+        (λ (s, rest). (ss : List the_statements.Statement)
+        → go (m.sign Sign.OpenRound ∷ m.a_name ∷ m.sign Sign.Comma ∷ m.role again ∷ []) (file_value ss ∷ []) pieces.now
+        ≡ go (m.statements (again_behind again s.content) ∷ []) (file_value (ss ++ s ∷ []) ∷ []) rest) }
     ensures rest { IfOk result (λ (s, rest). length rest ≤ length pieces.now) }
-    ensures err { IfErr result (Stops (m.sign Sign.OpenRound ∷ m.a_name ∷ m.sign Sign.Comma ∷ m.role again ∷ []) [] 0 pieces.now) }
+    ensures err { IfErr result
+        (Stops (m.sign Sign.OpenRound ∷ m.a_name ∷ m.sign Sign.Comma ∷ m.role again ∷ []) [] 0 pieces.now) }
 {
     let inner = expect(pieces, Sign::OpenRound, 0)?;
     let (name, after) = name(&inner)?;

@@ -55,7 +55,8 @@ fn arguments<'a>(
     level: usize,
 ) -> Result<(Term, Pieces<'a>), Stop>
     requires { level ≤ MAX_LEVELS }
-    ensures ok { IfOk result (λ (t, rest). Reads (m.arguments ∷ []) (head_value head [] ∷ []) [] (term_value t ∷ []) level pieces.now rest) }
+    ensures ok { IfOk result
+        (λ (t, rest). Reads (m.arguments ∷ []) (head_value head [] ∷ []) [] (term_value t ∷ []) level pieces.now rest) }
     ensures rest { IfOk result (λ (t, rest). length rest ≤ length pieces.now) }
     ensures err { IfErr result (Stops (m.arguments ∷ []) (head_value head [] ∷ []) level pieces.now) }
 {
@@ -78,7 +79,9 @@ fn terms<'a>(
     level: usize,
 ) -> Result<(Items<Term>, Pieces<'a>), Stop>
     requires { level < MAX_LEVELS }
-    ensures ok { IfOk result (λ (ts, rest). Reads (m.term ∷ m.more_terms ∷ []) (head_value head [] ∷ []) [] (term_value (the_terms.Apply head ts) ∷ []) level pieces.now rest) }
+    ensures ok { IfOk result
+        (λ (ts, rest). Reads (m.term ∷ m.more_terms ∷ []) (head_value head [] ∷ []) []
+        (term_value (the_terms.Apply head ts) ∷ []) level pieces.now rest) }
     ensures rest { IfOk result (λ (ts, rest). length rest ≤ length pieces.now) }
     ensures err { IfErr result (Stops (m.term ∷ m.more_terms ∷ []) (head_value head [] ∷ []) level pieces.now) }
 {

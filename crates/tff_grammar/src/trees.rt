@@ -4,7 +4,7 @@ use crate::pieces::{BasicSort, Junction, Link, Number, Operation, Quantifier, Re
 use sqlite_items::{Boxed, Items};
 
 /// A lower word, or a quoted one with its quotes.
-#[derive(Clone, Copy, Debug, PartialEq, Eq)]
+#[derive(Clone, Copy)]
 pub enum Word {
     /// A lower word.
     Lower(Span),
@@ -13,7 +13,7 @@ pub enum Word {
 }
 
 /// A sort: a word, `$i`, `$int`, or `$o`.
-#[derive(Clone, Copy, Debug, PartialEq, Eq)]
+#[derive(Clone, Copy)]
 pub enum Sort {
     /// A word that a declaration makes a sort.
     Word(Word),
@@ -24,7 +24,7 @@ pub enum Sort {
 }
 
 /// The type that a declaration gives a word.
-#[derive(Debug, Drop)]
+#[derive(Drop)]
 pub enum DeclaredType {
     /// `$tType`: the word is a sort.
     OfTypes,
@@ -33,7 +33,7 @@ pub enum DeclaredType {
 }
 
 /// What stands in front of arguments.
-#[derive(Clone, Copy, Debug, PartialEq, Eq)]
+#[derive(Clone, Copy)]
 pub enum Head {
     /// A word.
     Word(Word),
@@ -42,7 +42,7 @@ pub enum Head {
 }
 
 /// A term, or an atom that has the form of one.
-#[derive(Debug, Drop)]
+#[derive(Drop)]
 pub enum Term {
     /// A variable, by the place of its name.
     Variable(Span),
@@ -53,7 +53,7 @@ pub enum Term {
 }
 
 /// A variable that a quantifier binds, and its sort where one is written.
-#[derive(Clone, Copy, Debug, PartialEq, Eq)]
+#[derive(Clone, Copy)]
 pub struct Variable {
     /// The place of its name.
     pub name: Span,
@@ -62,7 +62,7 @@ pub struct Variable {
 }
 
 /// A formula.
-#[derive(Debug, Drop)]
+#[derive(Drop)]
 pub enum Formula {
     /// `$true` or `$false`
     Constant(bool),
@@ -81,7 +81,7 @@ pub enum Formula {
 }
 
 /// What a statement says, by its role.
-#[derive(Debug, Drop)]
+#[derive(Drop)]
 pub enum Content {
     /// The role `type`: a word and its type.
     Declaration(Word, DeclaredType),
@@ -92,7 +92,7 @@ pub enum Content {
 }
 
 /// A statement: the place of its name, and what it says.
-#[derive(Debug, Drop)]
+#[derive(Drop)]
 pub struct Statement {
     /// The place of its name.
     pub name: Span,

@@ -50,7 +50,10 @@ fn argument_follows_in(pieces: &Pieces) -> bool
 
 /// The sort behind a `>`.
 fn result_sort<'a>(pieces: &Pieces<'a>, level: usize) -> Result<(Sort, Pieces<'a>), Stop>
-    ensures ok { IfOk result (λ (s, rest). (args : List sorts.Sort) → Reads (m.result_sort ∷ []) (sorts_value args ∷ []) [] (type_value (types.Function args s) ∷ []) level pieces.now rest) }
+    ensures ok { IfOk result
+        (λ (s, rest). (args : List sorts.Sort)
+        → Reads (m.result_sort ∷ []) (sorts_value args ∷ []) []
+        (type_value (types.Function args s) ∷ []) level pieces.now rest) }
     ensures rest { IfOk result (λ (s, rest). length rest ≤ length pieces.now) }
     ensures err { IfErr result (Stops (m.result_sort ∷ []) [] level pieces.now) }
 {
@@ -71,7 +74,9 @@ fn type_behind<'a>(
     pieces: &Pieces<'a>,
     level: usize,
 ) -> Result<(DeclaredType, Pieces<'a>), Stop>
-    ensures ok { IfOk result (λ (t, rest). Reads (m.result ∷ []) (sorts_value (sort ∷ []) ∷ []) [] (type_value t ∷ []) level pieces.now rest) }
+    ensures ok { IfOk result
+        (λ (t, rest). Reads (m.result ∷ []) (sorts_value (sort ∷ []) ∷ []) []
+        (type_value t ∷ []) level pieces.now rest) }
     ensures rest { IfOk result (λ (t, rest). length rest ≤ length pieces.now) }
     ensures err { IfErr result (Stops (m.result ∷ []) (sorts_value (sort ∷ []) ∷ []) level pieces.now) }
 {
@@ -89,7 +94,10 @@ fn type_behind<'a>(
 /// A sort of an argument behind a `*`, in a bracket above `level` levels.
 fn argument<'a>(pieces: &Pieces<'a>, level: usize) -> Result<(Sort, Pieces<'a>), Stop>
     requires { level < MAX_LEVELS }
-    ensures ok { IfOk result (λ (s, rest). (args : List sorts.Sort) → Reads (m.argument ∷ []) (sorts_value args ∷ []) (m.more_args ∷ []) (sorts_value (args ++ s ∷ []) ∷ []) level pieces.now rest) }
+    ensures ok { IfOk result
+        (λ (s, rest). (args : List sorts.Sort)
+        → Reads (m.argument ∷ []) (sorts_value args ∷ []) (m.more_args ∷ [])
+        (sorts_value (args ++ s ∷ []) ∷ []) level pieces.now rest) }
     ensures rest { IfOk result (λ (s, rest). length rest < length pieces.now) }
     ensures err { IfErr result (Stops (m.argument ∷ []) [] level pieces.now) }
 {
@@ -110,7 +118,9 @@ fn arguments<'a>(
     level: usize,
 ) -> Result<(Items<Sort>, Pieces<'a>), Stop>
     requires { level < MAX_LEVELS }
-    ensures ok { IfOk result (λ (args, rest). Reads (m.argument ∷ []) (sorts_value (first ∷ []) ∷ []) (m.arrow_result ∷ []) (sorts_value args ∷ []) level pieces.now rest) }
+    ensures ok { IfOk result
+        (λ (args, rest). Reads (m.argument ∷ []) (sorts_value (first ∷ []) ∷ []) (m.arrow_result ∷ [])
+        (sorts_value args ∷ []) level pieces.now rest) }
     ensures rest { IfOk result (λ (args, rest). length rest ≤ length pieces.now) }
     ensures err { IfErr result (Stops (m.argument ∷ []) (sorts_value (first ∷ []) ∷ []) level pieces.now) }
 {
@@ -138,7 +148,9 @@ fn type_in<'a>(
     level: usize,
 ) -> Result<(DeclaredType, Pieces<'a>), Stop>
     requires { level < MAX_LEVELS }
-    ensures ok { IfOk result (λ (t, rest). Reads (m.in_args ∷ []) (sorts_value (sort ∷ []) ∷ []) [] (type_value t ∷ []) level pieces.now rest) }
+    ensures ok { IfOk result
+        (λ (t, rest). Reads (m.in_args ∷ []) (sorts_value (sort ∷ []) ∷ []) []
+        (type_value t ∷ []) level pieces.now rest) }
     ensures rest { IfOk result (λ (t, rest). length rest ≤ length pieces.now) }
     ensures err { IfErr result (Stops (m.in_args ∷ []) (sorts_value (sort ∷ []) ∷ []) level pieces.now) }
 {
@@ -236,7 +248,8 @@ pub(crate) fn typing<'a>(
     level: usize,
 ) -> Result<((Word, DeclaredType), Pieces<'a>), Stop>
     requires { level ≤ MAX_LEVELS }
-    ensures ok { IfOk result (λ ((w, t), rest). Reads (m.typing ∷ []) [] [] (type_value t ∷ m.word_value w ∷ []) level pieces.now rest) }
+    ensures ok { IfOk result
+        (λ ((w, t), rest). Reads (m.typing ∷ []) [] [] (type_value t ∷ m.word_value w ∷ []) level pieces.now rest) }
     ensures rest { IfOk result (λ (t, rest). length rest ≤ length pieces.now) }
     ensures err { IfErr result (Stops (m.typing ∷ []) [] level pieces.now) }
 {

@@ -8,8 +8,6 @@ mod quotes;
 mod scanner;
 mod signs;
 mod spans;
-#[cfg(test)]
-mod tests;
 mod values;
 mod words;
 

@@ -1,6 +1,6 @@
 -- How what is kept for each name changes with the binders in force.
 use Rattle.std.proofs.Common.{◌≡◌, ℕ, suc, ◌+◌, Bool, true, false, cond, List, [], ◌∷◌, ◌++◌, reverse, length, drop, refl, sym, ◌∙◌, ap, subst, append_assoc, length-append, arith}
-use Rattle.std.specs.Prelude.{Option, Some, None, if◌then◌else◌}
+use Rattle.std.specs.Prelude.{Option, Some, if◌then◌else◌}
 use Rattle.std.specs.Cmp.Lexicographic.{bytes_decides}
 use Rattle.std.proofs.Math.Seq.{drop-append_seam}
 use Rattle.std.specs.Map.{lookup}
@@ -98,10 +98,6 @@ innermost_of bs b (c ∷ scope) h = record { bound = c; outer = scope; is = refl
 pub innermost : (all bs : List Binding) (b : Binding) (scope : Scope) → all ≡ bs ++ b ∷ [] → AreHidden (reverse all) scope → Innermost bs b scope
 innermost all bs b scope e h =
     innermost_of bs b scope (subst (λ (xs : List Binding). AreHidden xs scope) (ap reverse e ∙ reverse-append bs (b ∷ [])) h)
-
-pub nothing_hidden : (all : List Binding) (scope : Scope) → all ≡ [] → AreHidden (reverse all) scope → scope ≡ []
-nothing_hidden all [] e h = refl
-nothing_hidden all (c ∷ scope) e h = absurd (subst (λ (xs : List Binding). AreHidden (reverse xs) (c ∷ scope)) e h)
 
 pub hidden_kept : (bs new : List Binding) (b : Binding) (c : Bound) (scope : Scope) → new ≡ bs ++ b ∷ [] → AreHidden (reverse bs) scope → b.name.items ≡ c.name → b.hidden ≡ bound_by scope c.name
     → AreHidden (reverse new) (c ∷ scope)

@@ -1,6 +1,6 @@
 -- The first fault of parts that follow each other, and what stops.
 use Rattle.std.proofs.Common.{◌≡◌, ℕ, ◌+◌, ◌<◌, ◌≤◌, List, [], ◌∷◌, ◌++◌, map, length, get_or, drop, refl, sym, ◌∙◌, ap, subst}
-use Rattle.std.specs.Prelude.{Option, Some, None, Result, Ok, Err, flat_map}
+use Rattle.std.specs.Prelude.{Some, Result, Ok, Err, flat_map}
 use Rattle.std.specs.Option.{option_or}
 use Rattle.std.proofs.lemmas.List.{at_drop_more, at_drop_all}
 use Rattle.tff_signature.specs.declared.faults.Later.{Later}
@@ -48,17 +48,6 @@ both_none fs gs none = ap (λ hs. hs ++ gs) none
 -- ---- a list of parts
 
 module _ {A : Type 0} (f : A → Faults) (xs : List A) (i : ℕ) (x : A) (below : i < length xs) (is : x ≡ get_or xs i x) where
-  parts_here : flat_map f (drop i xs) ≡ f x ++ flat_map f (drop (i + 1) xs)
-  parts_here = at_drop_more (flat_map f) xs i x below ∙ ap (λ y. f y ++ flat_map f (drop (i + 1) xs)) (sym is)
-
-  -- behind a part without a fault
-  pub parts_on : f x ≡ [] → flat_map f (drop i xs) ≡ flat_map f (drop (i + 1) xs)
-  parts_on none = parts_here ∙ both_none (f x) (flat_map f (drop (i + 1) xs)) none
-
-  -- at the first part that stops
-  pub parts_stop : (e : Stop) → Stops e (f x) → Stops e (flat_map f (drop i xs))
-  parts_stop e h = stops_same e (flat_map f (drop i xs)) (f x ++ flat_map f (drop (i + 1) xs)) parts_here (stops_sooner e (f x) (flat_map f (drop (i + 1) xs)) h)
-
   members_here : flat_map (λ (fs : Faults). fs) (map f (drop i xs)) ≡ f x ++ flat_map (λ (fs : Faults). fs) (map f (drop (i + 1) xs))
   members_here = at_drop_more (λ ys. flat_map (λ (fs : Faults). fs) (map f ys)) xs i x below ∙ ap (λ y. f y ++ flat_map (λ (fs : Faults). fs) (map f (drop (i + 1) xs))) (sym is)
 
@@ -69,10 +58,6 @@ module _ {A : Type 0} (f : A → Faults) (xs : List A) (i : ℕ) (x : A) (below 
   members_stop e h =
       stops_same e (flat_map (λ (fs : Faults). fs) (map f (drop i xs))) (f x ++ flat_map (λ (fs : Faults). fs) (map f (drop (i + 1) xs))) members_here
       (stops_sooner e (f x) (flat_map (λ (fs : Faults). fs) (map f (drop (i + 1) xs))) h)
-
--- behind the last part
-pub parts_end : {A : Type 0} (f : A → Faults) (xs : List A) (i : ℕ) → length xs ≤ i → flat_map f (drop i xs) ≡ []
-parts_end f xs i over = at_drop_all (flat_map f) xs i over
 
 pub members_end : {A : Type 0} (f : A → Faults) (xs : List A) (i : ℕ) → length xs ≤ i → flat_map (λ (fs : Faults). fs) (map f (drop i xs)) ≡ []
 members_end f xs i over = at_drop_all (λ ys. flat_map (λ (fs : Faults). fs) (map f ys)) xs i over

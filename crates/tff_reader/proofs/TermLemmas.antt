@@ -7,16 +7,10 @@ use Rattle.term_base.specs.declared.symbols.Sort.TheVariants as sorts
 use Rattle.term_base.specs.declared.symbols.Symbol.{Symbol}
 use Rattle.term_base.specs.declared.terms.Term.{Term}
 use Rattle.term_base.specs.declared.terms.Term.TheVariants as term
-use Rattle.formula_base.specs.declared.formulas.Formula.{Formula}
-use Rattle.formula_base.specs.declared.formulas.Formula.TheVariants as g
 use Rattle.tff_grammar.specs.declared.pieces.Span.{Span}
 use Rattle.tff_grammar.specs.declared.pieces.Number.{Number}
-use Rattle.tff_grammar.specs.declared.pieces.Operation.{Operation}
-use Rattle.tff_grammar.specs.declared.trees.Word.{Word}
 use Rattle.tff_grammar.specs.declared.trees.Head.{Head}
-use Rattle.tff_grammar.specs.declared.trees.Head.TheVariants as head
 use Rattle.tff_grammar.specs.declared.trees.Term.{Term as WrittenTerm}
-use Rattle.tff_grammar.specs.declared.trees.Term.TheOpen as t
 use Rattle.tff_grammar.specs.declared.trees.Term.TheVariants as written
 use Rattle.tff_grammar.specs.Pieces.{bytes_at}
 use Rattle.tff_signature.specs.declared.faults.Later.{Later}
@@ -32,7 +26,7 @@ use Rattle.tff_reader.specs.Stops.{Stops}
 use Rattle.tff_reader.specs.Scopes.{Scope, bound_by}
 use Rattle.tff_reader.specs.NumberTerms.{head_number}
 use Rattle.tff_reader.specs.Typing.{HeadType, own_fault, head_fault, head_place, head_type, arguments, argument_faults, bound_sort, term_sort, term_faults, term_faults_step, right_side, relation_faults}
-use Rattle.tff_reader.specs.Meaning.{TermMeaning, variable_term, head_term, term_meaning, term_meaning_step, term_of, atom_of, atom_step, comparison}
+use Rattle.tff_reader.specs.Meaning.{TermMeaning, variable_term, head_term, term_meaning, term_meaning_step, term_of}
 use Rattle.tff_reader.specs.Arguments.{IsMeant, AreMeant, head_faults, applied}
 use Rattle.tff_reader.proofs.StopLemmas.{stops_same, stops_sooner, stops_later}
 use Rattle.tff_reader.proofs.ArgumentLemmas.{applied_is}
@@ -129,17 +123,3 @@ module _ (text : List ℕ) (symbols : List Symbol) (scope : Scope) where
 
   pub all_terms : (us : List WrittenTerm) (args : Arguments) → AreMeant (map meant us) args → args.terms ≡ map (term_of text symbols scope) us
   all_terms us args h = h.terms ∙ terms_alike us
-
-  -- ---- atoms
-
-  pub operation_atom : (op : Operation) (s : Span) (us : List WrittenTerm) → atom_of text symbols scope (written.Apply (head.Operation op s) us) ≡ comparison op (map (term_of text symbols scope) us)
-  operation_atom op s us = ap (atom_step text symbols scope (written.Apply (head.Operation op s) us)) (written.outs-Apply (head.Operation op s) us)
-
-  pub word_atom : (w : Word) (us : List WrittenTerm) → atom_of text symbols scope (written.Apply (head.Word w) us) ≡ g.Atom (term_of text symbols scope (written.Apply (head.Word w) us))
-  word_atom w us = ap (atom_step text symbols scope (written.Apply (head.Word w) us)) (written.outs-Apply (head.Word w) us)
-
-  pub variable_atom : (s : Span) → atom_of text symbols scope (written.Variable s) ≡ g.Atom (term_of text symbols scope (written.Variable s))
-  variable_atom s = ap (atom_step text symbols scope (written.Variable s)) (written.outs-Variable s)
-
-  pub numeral_atom : (m : Number) → atom_of text symbols scope (written.Numeral m) ≡ g.Atom (term_of text symbols scope (written.Numeral m))
-  numeral_atom m = ap (atom_step text symbols scope (written.Numeral m)) (written.outs-Numeral m)

@@ -1,16 +1,12 @@
 -- Arguments, formulas and binders that are read one after the other.
-use Rattle.std.proofs.Common.{◌≡◌, ℕ, ◌+◌, ◌<◌, List, [], ◌∷◌, ◌++◌, map, length, get_or, drop, ◌≤◌, refl, sym, ◌∙◌, ap, subst, append_assoc, append-nil, arith}
-use Rattle.std.specs.Prelude.{Option, Result, Ok, Err}
+use Rattle.std.proofs.Common.{◌≡◌, ℕ, ◌+◌, ◌<◌, List, [], ◌∷◌, ◌++◌, map, length, get_or, drop, ◌≤◌, refl, sym, ◌∙◌, ap, subst, append_assoc, append-nil}
+use Rattle.std.specs.Prelude.{Option, Ok}
 use Rattle.std.proofs.lemmas.List.{at_drop_more, at_drop_all}
 use Rattle.term_base.specs.declared.symbols.Sort.{Sort}
 use Rattle.term_base.specs.declared.terms.Term.{Term}
-use Rattle.term_base.specs.declared.variables.Variable.{Variable}
 use Rattle.formula_base.specs.declared.formulas.Formula.{Formula}
 use Rattle.tff_grammar.specs.declared.trees.Term.{Term as WrittenTerm}
 use Rattle.tff_grammar.specs.declared.trees.Formula.{Formula as WrittenFormula}
-use Rattle.tff_grammar.specs.declared.trees.Variable.{Variable as WrittenVariable}
-use Rattle.tff_grammar.specs.Pieces.{bytes_at}
-use Rattle.tff_signature.specs.Names.{Name}
 use Rattle.tff_signature.specs.Faults.{Faults}
 use Rattle.tff_reader.specs.declared.stops.Stop.{Stop}
 use Rattle.tff_reader.specs.declared.numbers.Computed.{Computed}
@@ -19,12 +15,12 @@ use Rattle.tff_reader.specs.declared.scopes.Scope.{Scope as KeptScope}
 use Rattle.tff_reader.specs.declared.terms.TermMeaning.{TermMeaning as ReadMeaning}
 use Rattle.tff_reader.specs.declared.terms.Arguments.{Arguments}
 use Rattle.tff_reader.specs.Stops.{Stops}
-use Rattle.tff_reader.specs.Scopes.{Bound, Scope, bind, variable_of_sort, variables_from}
+use Rattle.tff_reader.specs.Scopes.{Scope}
 use Rattle.tff_reader.specs.Bindings.{Binds}
 use Rattle.tff_reader.specs.Typing.{asked, argument_faults}
-use Rattle.tff_reader.specs.Meaning.{TermMeaning, FormulaMeaning, Meaning, members, behind, faults_of, formulas_of}
+use Rattle.tff_reader.specs.Meaning.{TermMeaning, Meaning, members, behind, faults_of, formulas_of}
 use Rattle.tff_reader.specs.Arguments.{IsMeant, AreMeant, AreOnWay}
-use Rattle.tff_reader.specs.Contexts.{OnRead, OnReadAll, IsOnWay, BindsOnWay}
+use Rattle.tff_reader.specs.Contexts.{OnRead, OnReadAll, IsOnWay}
 use Rattle.tff_reader.proofs.StopLemmas.{stops_sooner, stops_same}
 
 -- the next item of those that are left
@@ -137,20 +133,3 @@ module _ (f : WrittenFormula → Meaning) (gs : List WrittenFormula) (i : ℕ) (
   pub way_all : (all : List Formula) (number : ℕ) (kept : KeptScope) → OnWay all number kept i → length gs ≤ i → OnReadAll (Ok (all, number)) kept scope ms n
   way_all all number kept way over =
       way_end all number kept scope ms n (subst (λ (xs : List Meaning). IsOnWay all number kept scope ms n xs) (at_drop_all (map f) gs i over) way)
-
--- ---- binders
-
-pub binds_next : (text : List ℕ) (sorts : List Name) (n : ℕ) (vs : List WrittenVariable) (scope : Scope) (kept kept' : KeptScope) (number next : ℕ) (v : WrittenVariable) (rest : List WrittenVariable)
-    → (w : BindsOnWay text sorts n vs scope kept number (v ∷ rest)) → next ≡ number + 1
-    → Binds kept' (record { name = bytes_at text v.name; variable = variable_of_sort text sorts number v.sort } ∷ w.inner)
-    → BindsOnWay text sorts n vs scope kept' next rest
-binds_next text sorts n vs scope kept kept' number next v rest w e h =
-    let b : Bound = record { name = bytes_at text v.name; variable = variable_of_sort text sorts number v.sort } in
-    record { inner = b ∷ w.inner; binds = h; left = w.left ∙ ap (λ i. bind text sorts i rest (b ∷ w.inner)) (sym e) }
-
-pub bound_next : (text : List ℕ) (sorts : List Name) (all bound : List Variable) (number next : ℕ) (v : WrittenVariable) (rest : List WrittenVariable) (x : Variable)
-    → all ≡ bound ++ variables_from text sorts number (v ∷ rest) → x ≡ variable_of_sort text sorts number v.sort → next ≡ number + 1
-    → all ≡ (bound ++ x ∷ []) ++ variables_from text sorts next rest
-bound_next text sorts all bound number next v rest x h is e =
-    h ∙ ap (λ y. bound ++ y ∷ variables_from text sorts (number + 1) rest) (sym is) ∙ ap (λ i. bound ++ x ∷ variables_from text sorts i rest) (sym e)
-    ∙ put_behind bound (variables_from text sorts next rest) x

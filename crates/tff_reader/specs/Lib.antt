@@ -1,11 +1,13 @@
-pub mod Stops
+-- The meaning: what public contracts say.
 pub mod Scopes
-pub mod Bindings
 pub mod NumberTerms
 pub mod Typing
-pub mod Heads
 pub mod Meaning
-pub mod Arguments
-pub mod Contexts
 pub mod Answer
 pub mod Rows
+-- Of private contracts alone.
+pub mod Stops
+pub mod Bindings
+pub mod Heads
+pub mod Arguments
+pub mod Contexts

@@ -53,8 +53,10 @@ fn members_of(alloc: Global, first: Formula, second: Formula) -> Result<Items<Fo
     ensures { IfOk result (λ fs. fs ≡ first ∷ second ∷ []) }
 {
     let mut members = Items::new(alloc);
-    members.push(first)?;
-    members.push(second)?;
+    let first = members.push(first);
+    let second = members.push(second);
+    first?;
+    second?;
     Ok(members)
 }
 
@@ -75,29 +77,49 @@ fn joined(junction: Junction, members: Items<Formula>) -> Formula
     }
 }
 
+/// The first of two formulas, or the negation of the second.
+fn converse(alloc: Global, left: Formula, right: Formula) -> Result<Formula, AllocError>
+    ensures { IfOk result (λ f. f ≡ spec.linked Link.Implied left right) }
+{
+    let negated = Formula::negation(alloc, right)?;
+    Ok(Formula::Or(members_of(alloc, left, negated)?))
+}
+
+/// The negation of an equivalence.
+fn difference(alloc: Global, left: Formula, right: Formula) -> Result<Formula, AllocError>
+    ensures { IfOk result (λ f. f ≡ spec.linked Link.Xor left right) }
+{
+    let both = Formula::equivalence(alloc, left, right)?;
+    Formula::negation(alloc, both)
+}
+
+/// The negation of a conjunction.
+fn negated_conjunction(alloc: Global, left: Formula, right: Formula) -> Result<Formula, AllocError>
+    ensures { IfOk result (λ f. f ≡ spec.linked Link.Nand left right) }
+{
+    let both = members_of(alloc, left, right)?;
+    Formula::negation(alloc, Formula::And(both))
+}
+
+/// The negation of a disjunction.
+fn negated_disjunction(alloc: Global, left: Formula, right: Formula) -> Result<Formula, AllocError>
+    ensures { IfOk result (λ f. f ≡ spec.linked Link.Nor left right) }
+{
+    let either = members_of(alloc, left, right)?;
+    Formula::negation(alloc, Formula::Or(either))
+}
+
 /// Two formulas with a sign between them.
 fn linked(alloc: Global, link: Link, left: Formula, right: Formula) -> Result<Formula, AllocError>
     ensures { IfOk result (λ f. f ≡ spec.linked link left right) }
 {
     match link {
         Link::Implies => Formula::implication(alloc, left, right),
-        Link::Implied => {
-            let negated = Formula::negation(alloc, right)?;
-            Ok(Formula::Or(members_of(alloc, left, negated)?))
-        }
+        Link::Implied => converse(alloc, left, right),
         Link::Iff => Formula::equivalence(alloc, left, right),
-        Link::Xor => {
-            let both = Formula::equivalence(alloc, left, right)?;
-            Formula::negation(alloc, both)
-        }
-        Link::Nand => {
-            let both = Formula::And(members_of(alloc, left, right)?);
-            Formula::negation(alloc, both)
-        }
-        Link::Nor => {
-            let either = Formula::Or(members_of(alloc, left, right)?);
-            Formula::negation(alloc, either)
-        }
+        Link::Xor => difference(alloc, left, right),
+        Link::Nand => negated_conjunction(alloc, left, right),
+        Link::Nor => negated_disjunction(alloc, left, right),
     }
 }
 
@@ -173,7 +195,8 @@ impl Context<'_, '_, '_> {
         next: u32,
         variables: &[WrittenVariable],
     ) -> Result<(Items<Variable>, u32), AllocError>
-        ensures bound { IfOk result (λ (vs, n). vs ≡ scopes.variables_from self.now.text.now self.now.sorts.now next variables.now) }
+        ensures bound { IfOk result
+            (λ (vs, n). vs ≡ scopes.variables_from self.now.text.now self.now.sorts.now next variables.now) }
         ensures number { IfOk result (λ (vs, n). n ≡ next + length variables.now) }
         ensures scope { (sc : scopes.Scope) → Binds scope.old sc
             → OnOk result (Binds scope.new (scopes.bind self.now.text.now self.now.sorts.now next variables.now sc)) }
@@ -240,7 +263,8 @@ impl Context<'_, '_, '_> {
     ) -> Result<(Items<Formula>, u32), Stop>
         requires { IsNamed self.now.signature.now }
         ensures { (sc : scopes.Scope) → Binds scope.old sc
-            → OnReadAll result scope.new sc (map (spec.meaning self.now.text.now (signature self.now)) members.now) next }
+            → OnReadAll result scope.new sc
+            (map (spec.meaning self.now.text.now (signature self.now)) members.now) next }
     {
         let mut all = Items::new(self.alloc);
         let mut number = next;

@@ -9,7 +9,7 @@ use tff_grammar::{Head, Operation};
 use tff_signature::{Later, LaterName, span};
 
 /// What a place asks of a term.
-#[derive(Clone, Copy, Debug, PartialEq, Eq)]
+#[derive(Clone, Copy)]
 pub enum Wanted {
     /// A predicate: the sort `$o`.
     Predicate,
@@ -20,7 +20,7 @@ pub enum Wanted {
 }
 
 /// The sorts of a head's arguments, and of what it gives.
-#[derive(Clone, Copy, Debug)]
+#[derive(Clone, Copy)]
 pub(crate) struct HeadType<'a> {
     pub(crate) args: &'a [Sort],
     pub(crate) result: Sort,
@@ -127,7 +127,9 @@ pub(crate) fn check_head<'a>(
     arity: usize,
     given: Option<HeadType<'a>>,
 ) -> Result<&'a [Sort], Later>
-    ensures ok { IfOk result (λ sorts. (spec.head_fault wanted at arity (typed given.entry) ≡ []) × (sorts.now ≡ spec.arguments (typed given.entry))) }
+    ensures ok { IfOk result
+        (λ sorts. (spec.head_fault wanted at arity (typed given.entry) ≡ [])
+        × (sorts.now ≡ spec.arguments (typed given.entry))) }
     ensures err { IfErr result (λ f. spec.head_fault wanted at arity (typed given.entry) ≡ f ∷ []) }
 {
     match given {

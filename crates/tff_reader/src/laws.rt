@@ -17,8 +17,10 @@ use tff_grammar::{no_fault_of_text, one_fault, one_text};
 /// The faults of types ascend by byte in file order (`types`), and so do those of products (`products`), so that in each of these
 /// phases the first in file order is that of the least byte (`least_type`, `least_product`).
 pub fn faults_ascend()
-    ensures types { (bytes : List ℕ) (statements : List Statement) → IsText bytes statements → AllPairs (λ f g. f.at < g.at) (phase_3 bytes statements) }
-    ensures products { (bytes : List ℕ) (statements : List Statement) → IsText bytes statements → AllPairs (λ f g. f.at < g.at) (phase_4 statements) }
+    ensures types { (bytes : List ℕ) (statements : List Statement) → IsText bytes statements
+        → AllPairs (λ f g. f.at < g.at) (phase_3 bytes statements) }
+    ensures products { (bytes : List ℕ) (statements : List Statement) → IsText bytes statements
+        → AllPairs (λ f g. f.at < g.at) (phase_4 statements) }
     ensures least_type { (bytes : List ℕ) (statements : List Statement) (first : later.Later) (others : Faults)
         → IsText bytes statements → phase_3 bytes statements ≡ first ∷ others → All (λ f. first.at < f.at) others }
     ensures least_product { (bytes : List ℕ) (statements : List Statement) (first : later.Later) (others : Faults)

@@ -4,13 +4,9 @@
 mod formulas;
 mod heads;
 mod laws;
-#[cfg(test)]
-mod meaning_tests;
 mod numbers;
 mod products;
 mod reader;
-#[cfg(test)]
-mod refusal_tests;
 mod refusals;
 mod scopes;
 mod stops;

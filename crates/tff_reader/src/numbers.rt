@@ -5,7 +5,7 @@ ghost use Rattle.tff_reader.specs.NumberTerms as spec;
 use tff_grammar::{Head, Operation};
 
 /// What a number-term computes to.
-#[derive(Clone, Copy, Debug, PartialEq, Eq)]
+#[derive(Clone, Copy)]
 pub enum Computed {
     /// Its value, where it and each step on the way are from -2^127 to 2^127 - 1.
     Value(i128),

@@ -11,7 +11,7 @@ use tff_grammar::{Content, Formula, Head, Operation, Statement, Term};
 use tff_signature::{Later, LaterName};
 
 /// What a term computes to where it is a number-term, and the first fault of its products.
-#[derive(Clone, Copy, Debug)]
+#[derive(Clone, Copy)]
 struct Products {
     number: Option<Computed>,
     fault: Option<Later>,

@@ -187,7 +187,8 @@ fn sort_count(sorts: &Names) -> Result<u32, AllocError>
 
 /// The declared sorts and the symbols of the statements of a text, or the first fault of their declarations and binders.
 fn tables(alloc: Global, text: &[u8], statements: &[Statement]) -> Result<(Names, Signature), Stop>
-    ensures { Reads result (phase_2 text.now statements.now) (λ (sorts, signature). (sorts ≡ (signature_of text.now statements.now).sorts)
+    ensures { Reads result (phase_2 text.now statements.now)
+        (λ (sorts, signature). (sorts ≡ (signature_of text.now statements.now).sorts)
         × IsNamed signature × (signature.symbols ≡ (signature_of text.now statements.now).symbols)) }
 {
     let declared = declarations_of(alloc, text, statements)?;
@@ -201,6 +202,7 @@ fn problem(alloc: Global, text: &[u8], statements: Items<Statement>) -> Result<P
     ensures { Reads result (spec.later_faults text.now statements) (λ p. p ≡ meaning.problem_of text.now statements) }
 {
     let (sorts, signature) = tables(alloc, text, statements.as_slice())?;
+    let count = sort_count(&sorts)?;
     let context = &Context {
         alloc,
         text,
@@ -210,7 +212,6 @@ fn problem(alloc: Global, text: &[u8], statements: Items<Statement>) -> Result<P
     let products = check_products(alloc, statements.as_slice());
     let formulas = read_formulas(context, statements)?;
     products?;
-    let count = sort_count(&sorts)?;
     Ok(Problem {
         symbols: signature.symbols,
         sorts: count,
@@ -228,7 +229,8 @@ pub fn read(alloc: Global, bytes: &[u8]) -> Result<Problem, ReadError>
     ensures typed { IfOk result IsWellTyped }
     ensures numbered { IfOk result (λ p. All IsNumbered (formulas p)) }
     // A text without a fault is read, and as no other problem, unless memory runs out.
-    ensures only { (p : the_problem.Problem) → IsProblem bytes.now p → MatchResult result (λ read. read ≡ p) (λ e. e ≡ ReadError.Memory) }
+    ensures only { (p : the_problem.Problem) → IsProblem bytes.now p
+        → MatchResult result (λ read. read ≡ p) (λ e. e ≡ ReadError.Memory) }
 {
     one_text();
     no_fault_of_text();

@@ -4,7 +4,7 @@ use std::alloc::AllocError;
 use tff_signature::Later;
 
 /// Why the reading of a formula stops.
-#[derive(Clone, Copy, Debug, PartialEq, Eq)]
+#[derive(Clone, Copy)]
 pub(crate) enum Stop {
     Memory,
     Fault(Later),

@@ -187,7 +187,8 @@ impl<'t, 'n, 's> Context<'t, 'n, 's> {
     ) -> Result<(Term, Term), Stop>
         requires { IsNamed self.now.signature.now }
         ensures { (sc : scopes.Scope) → Binds scope.now sc
-            → Reads result (typing.relation_faults self.now.text.now self.now.signature.now.symbols sc left.now right.now)
+            → Reads result
+            (typing.relation_faults self.now.text.now self.now.signature.now.symbols sc left.now right.now)
             (λ (s, t). (s ≡ spec.term_of self.now.text.now self.now.signature.now.symbols sc left.now)
             × (t ≡ spec.term_of self.now.text.now self.now.signature.now.symbols sc right.now)) }
     {
@@ -205,7 +206,8 @@ impl<'t, 'n, 's> Context<'t, 'n, 's> {
     ) -> Result<Items<Term>, Stop>
         requires { IsNamed self.now.signature.now }
         ensures { (sc : scopes.Scope) → Binds scope.now sc
-            → Reads result (head_faults self.now.text.now self.now.signature.now.symbols sc Wanted.Predicate head args.now)
+            → Reads result
+            (head_faults self.now.text.now self.now.signature.now.symbols sc Wanted.Predicate head args.now)
             (λ ts. ts ≡ map (spec.term_of self.now.text.now self.now.signature.now.symbols sc) args.now) }
     {
         let arguments = self.arguments(scope, Wanted::Predicate, head, args)?;
@@ -282,6 +284,14 @@ fn operated(alloc: Global, operation: Operation, arguments: Arguments) -> Result
     }
 }
 
+/// The first term less the second.
+fn difference(alloc: Global, first: Term, second: Term) -> Result<Term, AllocError>
+    ensures { IfOk result (λ t. t ≡ Term.Sum first (Term.Scale spec.minus_one second)) }
+{
+    let subtracted = Term::scale(alloc, -1, second)?;
+    Term::sum(alloc, first, subtracted)
+}
+
 /// An arithmetic word of two arguments.
 fn combined(
     alloc: Global,
@@ -294,10 +304,7 @@ fn combined(
 {
     match operation {
         Operation::Sum => Term::sum(alloc, first, second),
-        Operation::Difference => {
-            let subtracted = Term::scale(alloc, -1, second)?;
-            Term::sum(alloc, first, subtracted)
-        }
+        Operation::Difference => difference(alloc, first, second),
         Operation::Product => scaled(alloc, numbers, first, second),
         _ => Ok(Term::True),
     }

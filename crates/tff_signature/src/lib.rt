@@ -6,8 +6,6 @@ mod faults;
 mod laws;
 mod names;
 mod symbols;
-#[cfg(test)]
-mod tests;
 
 pub use declarations::{Declared, check_declarations, declarations_of};
 pub use faults::{Later, LaterName};

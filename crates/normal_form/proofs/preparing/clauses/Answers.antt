@@ -1,7 +1,6 @@
-use Rattle.std.proofs.Common.{◌≡◌, length, rules, sym, ap, ◌∙◌, subst, arith}
-use Rattle.std.proofs.lemmas.Grind.{common_steps}
+use Rattle.std.proofs.Common.{◌≡◌, length, sym, ap, ◌∙◌, subst}
 use Rattle.term_base.specs.declared.preparation.Prepared.{Prepared}
-use Rattle.normal_form.specs.Clauses.{AreWellSorted, prepared}
+use Rattle.normal_form.specs.Clauses.{AreWellSorted}
 use Rattle.normal_form.specs.Known.{HasKnownSymbols}
 use Rattle.normal_form.proofs.Counted.{clauses_counted}
 use Rattle.normal_form.proofs.Known.{known_symbols}
@@ -9,22 +8,10 @@ use Rattle.normal_form.proofs.Typed.{well_sorted}
 use Rattle.normal_form.proofs.preparing.clauses.Goals as goal
 
 pub returns-clause-well_sorted : goal.returns-clause-well_sorted
-returns-clause-well_sorted c = λ typed.
-    let p = c.args.problem.now in
-    let given : Prepared = record { symbols = c.in_ok-converted.converted.symbols; clauses = c.in_ok-clauses.clauses } in
-    let same : given ≡ prepared p c.args.ordinary = first_of (search rules, cc, grind (arith, common_steps)) in
-    subst AreWellSorted (sym same) (well_sorted p c.args.ordinary typed)
+returns-clause-well_sorted c = λ typed. subst AreWellSorted (sym c.in_ok-prepared.ensures) (well_sorted c.args.problem.now c.args.ordinary typed)
 
 pub returns-clause-known : goal.returns-clause-known
-returns-clause-known c = λ typed.
-    let p = c.args.problem.now in
-    let given : Prepared = record { symbols = c.in_ok-converted.converted.symbols; clauses = c.in_ok-clauses.clauses } in
-    let same : given ≡ prepared p c.args.ordinary = first_of (search rules, cc, grind (arith, common_steps)) in
-    subst HasKnownSymbols (sym same) (known_symbols p c.args.ordinary typed)
+returns-clause-known c = λ typed. subst HasKnownSymbols (sym c.in_ok-prepared.ensures) (known_symbols c.args.problem.now c.args.ordinary typed)
 
 pub returns-clause-counted : goal.returns-clause-counted
-returns-clause-counted c =
-    let p = c.args.problem.now in
-    let given : Prepared = record { symbols = c.in_ok-converted.converted.symbols; clauses = c.in_ok-clauses.clauses } in
-    let same : given ≡ prepared p c.args.ordinary = first_of (search rules, cc, grind (arith, common_steps)) in
-    ap (λ (q : Prepared). length q.clauses) same ∙ clauses_counted p c.args.ordinary
+returns-clause-counted c = ap (λ (q : Prepared). length q.clauses) c.in_ok-prepared.ensures ∙ clauses_counted c.args.problem.now c.args.ordinary
