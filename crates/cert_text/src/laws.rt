@@ -10,7 +10,8 @@ ghost use Rattle.text_pieces.specs.Languages.{HasSpelling};
 
 /// Where the spelling of one certificate is a prefix of another's, a digit follows it there.
 pub fn a_digit_follows()
-    ensures { (a b : Cert) (text : List ℕ) (next : ℕ) (more : List ℕ) → Spells a text → Spells b (text ++ next ∷ more) → is_digit next ≡ true }
+    ensures { (a b : Cert) (text : List ℕ) (next : ℕ) (more : List ℕ)
+        → Spells a text → Spells b (text ++ next ∷ more) → is_digit next ≡ true }
 {}
 
 /// Bytes that spell a certificate spell no other one.

@@ -7,8 +7,6 @@ mod laws;
 mod lins;
 mod parts;
 mod printing;
-#[cfg(test)]
-mod tests;
 mod tree_printing;
 mod trees;
 

@@ -61,7 +61,8 @@ pub fn multiples(alloc: Global, text: &[u8]) -> Result<(Items<(u32, i128)>, &[u8
 
 // What stands behind `inst`.
 fn inst(alloc: Global, text: &[u8]) -> Result<(Row, &[u8]), Unread>
-    ensures { MatchResult result (λ f. Reads (RowParts kind.Inst) text.now f.0 f.1.now) (Unreadable (RowParts kind.Inst) text.now) }
+    ensures { MatchResult result (λ f. Reads (RowParts kind.Inst) text.now f.0 f.1.now)
+        (Unreadable (RowParts kind.Inst) text.now) }
 {
     let (clause, rest) = index(text)?;
     let (x, rest) = index(rest)?;
@@ -72,7 +73,8 @@ fn inst(alloc: Global, text: &[u8]) -> Result<(Row, &[u8]), Unread>
 
 // What stands behind `low`.
 fn low(text: &[u8]) -> Result<(Row, &[u8]), Bad>
-    ensures { MatchResult result (λ f. Reads (RowParts kind.Low) text.now f.0 f.1.now) (λ e. Fails (RowParts kind.Low) text.now e.left) }
+    ensures { MatchResult result (λ f. Reads (RowParts kind.Low) text.now f.0 f.1.now)
+        (λ e. Fails (RowParts kind.Low) text.now e.left) }
 {
     let (clause, rest) = index(text)?;
     let (x, rest) = index(rest)?;

@@ -17,7 +17,8 @@ use text_pieces::{Bad, Unread, blank, blank_count, blank_number};
 /// A blank and behind it a tree, and what follows. Bad at the first byte with which none goes on.
 #[cycle(blank_tree)]
 pub fn blank_tree(alloc: Global, text: &[u8]) -> Result<(Tree, &[u8]), Unread>
-    ensures { MatchResult result (λ f. Reads (Blank SpellsTree) text.now f.0 f.1.now) (Unreadable (Blank SpellsTree) text.now) }
+    ensures { MatchResult result (λ f. Reads (Blank SpellsTree) text.now f.0 f.1.now)
+        (Unreadable (Blank SpellsTree) text.now) }
 {
     let behind = blank(text)?;
     let (kind, rest) = node_kind(behind)?;
@@ -37,7 +38,9 @@ pub fn blank_tree(alloc: Global, text: &[u8]) -> Result<(Tree, &[u8]), Unread>
 #[cycle(blank_tree)]
 fn trees(alloc: Global, text: &[u8], count: u128) -> Result<(Items<Tree>, &[u8]), Unread>
     requires { NoDigit text.now }
-    ensures { (n : ℕ) → IsCount count n → MatchResult result (λ f. Reads (Times (Blank SpellsTree) n) text.now f.0 f.1.now) (Unreadable (Times (Blank SpellsTree) n) text.now) }
+    ensures { (n : ℕ) → IsCount count n → MatchResult result
+        (λ f. Reads (Times (Blank SpellsTree) n) text.now f.0 f.1.now)
+        (Unreadable (Times (Blank SpellsTree) n) text.now) }
 {
     let mut trees = Items::new(alloc);
     let mut rest = text;
@@ -52,7 +55,8 @@ fn trees(alloc: Global, text: &[u8], count: u128) -> Result<(Items<Tree>, &[u8])
 // What stands behind `case`.
 #[cycle(blank_tree)]
 fn case(alloc: Global, text: &[u8]) -> Result<(Tree, &[u8]), Unread>
-    ensures { MatchResult result (λ f. Reads (NodeParts SpellsTree kind.Case) text.now f.0 f.1.now) (Unreadable (NodeParts SpellsTree kind.Case) text.now) }
+    ensures { MatchResult result (λ f. Reads (NodeParts SpellsTree kind.Case) text.now f.0 f.1.now)
+        (Unreadable (NodeParts SpellsTree kind.Case) text.now) }
 {
     let (clause, rest) = index(text)?;
     let (literals, rest) = blank_count(rest)?;
@@ -63,7 +67,8 @@ fn case(alloc: Global, text: &[u8]) -> Result<(Tree, &[u8]), Unread>
 // What stands behind `combine`.
 #[cycle(blank_tree)]
 fn combine(alloc: Global, text: &[u8]) -> Result<(Tree, &[u8]), Unread>
-    ensures { MatchResult result (λ f. Reads (NodeParts SpellsTree kind.Combine) text.now f.0 f.1.now) (Unreadable (NodeParts SpellsTree kind.Combine) text.now) }
+    ensures { MatchResult result (λ f. Reads (NodeParts SpellsTree kind.Combine) text.now f.0 f.1.now)
+        (Unreadable (NodeParts SpellsTree kind.Combine) text.now) }
 {
     let (list, rest) = multiples(alloc, text)?;
     let (child, rest) = blank_tree(alloc, rest)?;
@@ -74,7 +79,8 @@ fn combine(alloc: Global, text: &[u8]) -> Result<(Tree, &[u8]), Unread>
 // What stands behind `cut`.
 #[cycle(blank_tree)]
 fn cut(alloc: Global, text: &[u8]) -> Result<(Tree, &[u8]), Unread>
-    ensures { MatchResult result (λ f. Reads (NodeParts SpellsTree kind.Cut) text.now f.0 f.1.now) (Unreadable (NodeParts SpellsTree kind.Cut) text.now) }
+    ensures { MatchResult result (λ f. Reads (NodeParts SpellsTree kind.Cut) text.now f.0 f.1.now)
+        (Unreadable (NodeParts SpellsTree kind.Cut) text.now) }
 {
     let (fact, rest) = index(text)?;
     let (child, rest) = blank_tree(alloc, rest)?;
@@ -85,7 +91,8 @@ fn cut(alloc: Global, text: &[u8]) -> Result<(Tree, &[u8]), Unread>
 // What stands behind `branch`.
 #[cycle(blank_tree)]
 fn branch(alloc: Global, text: &[u8]) -> Result<(Tree, &[u8]), Unread>
-    ensures { MatchResult result (λ f. Reads (NodeParts SpellsTree kind.Branch) text.now f.0 f.1.now) (Unreadable (NodeParts SpellsTree kind.Branch) text.now) }
+    ensures { MatchResult result (λ f. Reads (NodeParts SpellsTree kind.Branch) text.now f.0 f.1.now)
+        (Unreadable (NodeParts SpellsTree kind.Branch) text.now) }
 {
     let (t, rest) = blank_lin(alloc, text)?;
     let (left, rest) = blank_tree(alloc, rest)?;
@@ -98,7 +105,8 @@ fn branch(alloc: Global, text: &[u8]) -> Result<(Tree, &[u8]), Unread>
 // What stands behind `residues`.
 #[cycle(blank_tree)]
 fn residues(alloc: Global, text: &[u8]) -> Result<(Tree, &[u8]), Unread>
-    ensures { MatchResult result (λ f. Reads (NodeParts SpellsTree kind.Residues) text.now f.0 f.1.now) (Unreadable (NodeParts SpellsTree kind.Residues) text.now) }
+    ensures { MatchResult result (λ f. Reads (NodeParts SpellsTree kind.Residues) text.now f.0 f.1.now)
+        (Unreadable (NodeParts SpellsTree kind.Residues) text.now) }
 {
     let (m, rest) = blank_number(text, 0, i128::MAX as u128)?;
     let (t, rest) = blank_lin(alloc, rest)?;
@@ -110,7 +118,8 @@ fn residues(alloc: Global, text: &[u8]) -> Result<(Tree, &[u8]), Unread>
 // What stands behind `solve`.
 #[cycle(blank_tree)]
 fn solve(alloc: Global, text: &[u8]) -> Result<(Tree, &[u8]), Unread>
-    ensures { MatchResult result (λ f. Reads (NodeParts SpellsTree kind.Solve) text.now f.0 f.1.now) (Unreadable (NodeParts SpellsTree kind.Solve) text.now) }
+    ensures { MatchResult result (λ f. Reads (NodeParts SpellsTree kind.Solve) text.now f.0 f.1.now)
+        (Unreadable (NodeParts SpellsTree kind.Solve) text.now) }
 {
     let (fact, rest) = index(text)?;
     let (p, rest) = index(rest)?;
@@ -122,7 +131,8 @@ fn solve(alloc: Global, text: &[u8]) -> Result<(Tree, &[u8]), Unread>
 // What stands behind `least`.
 #[cycle(blank_tree)]
 fn least(alloc: Global, text: &[u8]) -> Result<(Tree, &[u8]), Unread>
-    ensures { MatchResult result (λ f. Reads (NodeParts SpellsTree kind.Least) text.now f.0 f.1.now) (Unreadable (NodeParts SpellsTree kind.Least) text.now) }
+    ensures { MatchResult result (λ f. Reads (NodeParts SpellsTree kind.Least) text.now f.0 f.1.now)
+        (Unreadable (NodeParts SpellsTree kind.Least) text.now) }
 {
     let (p, rest) = index(text)?;
     let (count, rest) = blank_count(rest)?;
@@ -132,7 +142,8 @@ fn least(alloc: Global, text: &[u8]) -> Result<(Tree, &[u8]), Unread>
 
 // What stands behind `clash`.
 fn clash(text: &[u8]) -> Result<(Tree, &[u8]), Bad>
-    ensures { MatchResult result (λ f. Reads (NodeParts SpellsTree kind.Clash) text.now f.0 f.1.now) (λ e. Fails (NodeParts SpellsTree kind.Clash) text.now e.left) }
+    ensures { MatchResult result (λ f. Reads (NodeParts SpellsTree kind.Clash) text.now f.0 f.1.now)
+        (λ e. Fails (NodeParts SpellsTree kind.Clash) text.now e.left) }
 {
     let (fact, rest) = index(text)?;
     Ok((Tree::Clash { fact }, rest))

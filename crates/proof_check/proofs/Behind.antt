@@ -5,7 +5,7 @@ use Rattle.std.proofs.lemmas.Bool.{and_from, and_parts, or_left, eq-eqb, eqb-tru
 use Rattle.std.specs.Prelude.{nat_eq, not, ◌&&◌, ◌||◌, ◌≤◌}
 use Rattle.std.specs.List.{starts_with}
 use Rattle.std.specs.Cmp.Lexicographic.{pointwise}
-use Rattle.text_ends.specs.Fronts.{Front}
+use Rattle.text_pieces.specs.Fronts.{Front}
 use Rattle.formula_base.specs.declared.problems.Problem.{Problem}
 use Rattle.tff_reader.specs.Answer.{IsProblem}
 use Rattle.normal_form.specs.Clauses.{count_of, max_clauses, prepared}

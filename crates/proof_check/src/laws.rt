@@ -35,7 +35,8 @@ pub fn verified_exactly()
 
 /// Where nothing stands behind a problem without a fault and with at most 100,000 clauses, the text is bad at the input's length.
 pub fn bad_without_answer()
-    ensures { (bytes : List ℕ) (p : Problem) (c : Checked) → problem_part bytes ≡ bytes → IsProblem bytes p → count_of p ≤ max_clauses
+    ensures { (bytes : List ℕ) (p : Problem) (c : Checked)
+        → problem_part bytes ≡ bytes → IsProblem bytes p → count_of p ≤ max_clauses
         → Finds bytes c → c ≡ checked.BadText (length bytes) }
 {
     one_answer();
@@ -44,7 +45,8 @@ pub fn bad_without_answer()
 /// Bytes of which no line begins as an answer does, and which end with a line or are none, are the problem's part in front of an answer, and the
 /// answer is the part behind it.
 pub fn answer_behind()
-    ensures { (bytes answer : List ℕ) → problem_part bytes ≡ bytes → ends_line bytes ≡ true → begins_answer answer ≡ true
+    ensures { (bytes answer : List ℕ)
+        → problem_part bytes ≡ bytes → ends_line bytes ≡ true → begins_answer answer ≡ true
         → (problem_part (bytes ++ answer) ≡ bytes) × (answer_part (bytes ++ answer) ≡ answer) }
 {}
 
@@ -52,7 +54,8 @@ pub fn answer_behind()
 /// the bytes are a problem without a fault and with at most 100,000 clauses, none of their lines begins as an answer does, and they end
 /// with a line or are none.
 pub fn proof_behind()
-    ensures { (bytes answer : List ℕ) (p : Problem) (status : Status) (d : Derivation) → problem_part bytes ≡ bytes → ends_line bytes ≡ true
+    ensures { (bytes answer : List ℕ) (p : Problem) (status : Status) (d : Derivation)
+        → problem_part bytes ≡ bytes → ends_line bytes ≡ true
         → IsProblem bytes p → count_of p ≤ max_clauses → Spells (status, d) answer → IsStatusOf p status
         → Derives (prepared p d.ordinary) d.steps → IsProved (bytes ++ answer) }
 {}

@@ -5,8 +5,6 @@ mod checked;
 mod checking;
 mod laws;
 mod sections;
-#[cfg(test)]
-mod tests;
 
 pub use checked::Checked;
 pub use checking::check;

@@ -9,7 +9,7 @@ use Rattle.proof_steps.specs.declared.steps.Step.{Step}
 use Rattle.proof_steps.specs.declared.steps.Derivation.{Derivation}
 use Rattle.text_pieces.specs.Languages.{Cat}
 use Rattle.cert_text.proofs.Conditions.{cert_spelled}
-use Rattle.text_ends.specs.Fronts.{Front}
+use Rattle.text_pieces.specs.Fronts.{Front}
 use Rattle.term_text.specs.Clauses.{SpellsClauseLine}
 use Rattle.proof_text.specs.declared.kinds.RuleKind.{RuleKind}
 use Rattle.proof_text.specs.declared.kinds.RuleKind.TheVariants.{Input, Superpose, Resolve, Factor, Abstract, Normal, Pin, Demodulate, Define, Close}

@@ -1,9 +1,10 @@
 -- Texts that no digit may follow.
 use Rattle.std.proofs.Common.{◌≡◌, ℕ, Bool, true, false, List, [], ◌∷◌, ◌++◌, length, refl, sym, ap, subst, ◌∙◌}
 use Rattle.text_pieces.specs.Decimals.{is_digit}
-use Rattle.text_pieces.specs.Languages.{NoDigit, Reads, Fails, Exactly}
-use Rattle.text_ends.specs.Ending.{ReadsTo, FailsTo, OneFrontTo, Followed, no_byte}
-use Rattle.text_ends.proofs.Ends.{free_digit, within_none, followed_fails, read_on}
+use Rattle.text_pieces.specs.Languages.{NoDigit, Reads, Fails, Exactly, ReadsTo}
+use Rattle.text_pieces.specs.Unambiguous.{OneFrontTo}
+use Rattle.text_pieces.specs.Ending.{Followed, no_byte}
+use Rattle.text_pieces.proofs.Ends.{within_none, followed_fails, read_on}
 
 -- a digit follows
 followed : (rest : List ℕ) (left : ℕ) → Fails (Exactly []) rest left → Followed is_digit rest left
@@ -18,10 +19,10 @@ followed (b ∷ bs) left f = by (is_digit b) refl f.front f.rest f.whole f.left_
         no_more : {c : ℕ} {cs : List ℕ} → ◌≡◌ {A = List ℕ} [] (c ∷ cs) → ⊥
         no_more h = cc
 
-pub digit_fails : {A : Type 0} {L : A → List ℕ → Type 0} {text rest : List ℕ} {a : A} {left : ℕ} → OneFrontTo no_byte L → ReadsTo no_byte L text a rest → Fails (Exactly []) rest left → FailsTo is_digit L text left
+pub digit_fails : {A : Type 0} {L : A → List ℕ → Type 0} {text rest : List ℕ} {a : A} {left : ℕ} → OneFrontTo no_byte L → ReadsTo no_byte L text a rest → Fails (Exactly []) rest left → Fails L text left
 digit_fails {rest = rest} {left = left} one r f = followed_fails (within_none is_digit) one r (followed rest left f)
 
-pub no_digit_reads : {A : Type 0} {L : A → List ℕ → Type 0} {text rest last : List ℕ} {a : A} → ReadsTo no_byte L text a rest → Reads (Exactly []) rest tt last → ReadsTo is_digit L text a last
+pub no_digit_reads : {A : Type 0} {L : A → List ℕ → Type 0} {text rest last : List ℕ} {a : A} → ReadsTo no_byte L text a rest → Reads (Exactly []) rest tt last → Reads L text a last
 no_digit_reads {A} {L} {text} {rest} {last} {a} r e =
     let same : rest ≡ last = e.whole ∙ ap (λ z. z ++ last) e.spelled in
-    subst (λ z. ReadsTo is_digit L text a z) same (read_on r (free_digit rest (subst NoDigit (sym same) e.ends)))
+    subst (λ z. Reads L text a z) same (read_on r (subst NoDigit (sym same) e.ends))

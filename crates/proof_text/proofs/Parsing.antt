@@ -1,10 +1,11 @@
 -- Whole texts.
 use Rattle.std.proofs.Common.{◌≡◌, ℕ, ◌+◌, ◌-◌, ◌<◌, ◌≤◌, List, [], ◌∷◌, ◌++◌, length, length-append, take, refl, sym, ap, subst, ◌∙◌, append_assoc, append-nil, arith}
 use Rattle.std.proofs.Math.Seq.{take-append_seam}
-use Rattle.text_pieces.specs.Languages.{GoesOn, StopsAt}
+use Rattle.text_pieces.specs.Languages.{GoesOn, StopsAt, ReadsTo, FailsTo}
 use Rattle.text_pieces.proofs.Joining.{not_longer}
-use Rattle.text_ends.specs.Ending.{ReadsTo, FailsTo, OneFrontTo, no_byte}
-use Rattle.text_ends.proofs.Ends.{free_none}
+use Rattle.text_pieces.specs.Unambiguous.{OneFrontTo}
+use Rattle.text_pieces.specs.Ending.{no_byte}
+use Rattle.text_pieces.proofs.Ends.{free_none}
 use Rattle.proof_text.specs.Parsing.{NoneIs}
 
 module _ {A : Type 0} (L : A → List ℕ → Type 0) where

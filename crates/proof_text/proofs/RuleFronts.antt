@@ -6,7 +6,7 @@ use Rattle.term_base.specs.declared.places.Place.{Place}
 use Rattle.term_base.specs.declared.places.Side.{Side}
 use Rattle.proof_steps.specs.declared.steps.Rule.{Rule}
 use Rattle.text_pieces.specs.Decimals.{is_digit}
-use Rattle.text_pieces.specs.Languages.{Cat}
+use Rattle.text_pieces.specs.Languages.{Cat, Free}
 use Rattle.text_pieces.specs.Numbers.{Number, Word32}
 use Rattle.text_pieces.specs.Separated.{Tail}
 use Rattle.text_pieces.proofs.Digits.{digit_below}
@@ -16,13 +16,14 @@ use Rattle.text_pieces.proofs.Joining.{one_front-cat as digits-cat}
 use Rattle.text_pieces.proofs.Tails.{unambiguous-tail}
 use Rattle.cert_text.specs.Grammar.{Spells as SpellsCert}
 use Rattle.cert_text.proofs.Wholes.{unambiguous-cert}
-use Rattle.text_ends.specs.Ending.{Free, OneFrontTo, no_byte, is_digit_or_bracket}
-use Rattle.text_ends.specs.Fronts.{Front}
-use Rattle.text_ends.specs.Kinds.{OneKind, kind_at}
-use Rattle.text_ends.proofs.Ends.{one_to, joins-first}
-use Rattle.text_ends.proofs.Lifts.{Lift, Sure, Next, sure-cat, sure-image}
-use Rattle.text_ends.proofs.Words.{sure-front, next-front, sure-word}
-use Rattle.text_ends.proofs.Kinded.{Told, kinded, sure-kinds}
+use Rattle.text_pieces.specs.Ending.{no_byte, is_digit_or_bracket}
+use Rattle.text_pieces.specs.Fronts.{Front}
+use Rattle.text_pieces.specs.Kinds.{OneKind, kind_at}
+use Rattle.text_pieces.proofs.Ends.{joins-first}
+use Rattle.text_pieces.proofs.Lifts.{Lift, Sure, Next, sure-cat, sure-image}
+use Rattle.text_pieces.proofs.WordReading.{sure-front, next-front, sure-word}
+use Rattle.text_pieces.proofs.Kinded.{Told, kinded, sure-kinds}
+use Rattle.text_pieces.specs.Unambiguous.{OneFront}
 use Rattle.term_text.specs.Terms.{SpellsTerm}
 use Rattle.term_text.specs.Places.{SpellsSide}
 use Rattle.term_text.specs.Substitutions.{SpellsSubst}
@@ -94,11 +95,11 @@ told-premises false ns t s =
       tells = digit_no_minus d.head d.digit;
     }
 
-one_front-premises : (k : Bool) → OneFrontTo is_digit (PremisesParts k)
+one_front-premises : (k : Bool) → OneFront (PremisesParts k)
 one_front-premises true = (sure-image _ (sure-word is_digit (codes "- "))).one
 one_front-premises false =
     let tail = unambiguous-tail (Number Word32) (one_front-number Word32) 44 32 refl refl apart in
-    one_to (PremisesParts false) (digits-image (λ (p : ℕ × List ℕ). p.0 ∷ p.1) _ (digits-cat (Number Word32) (λ first. Tail (Number Word32) 44 32) (one_front-number Word32) (λ a. tail.one) (λ a. tail.clear)))
+    digits-image (λ (p : ℕ × List ℕ). p.0 ∷ p.1) _ (digits-cat (Number Word32) (λ first. Tail (Number Word32) 44 32) (one_front-number Word32) (λ a. tail.one) (λ a. tail.clear))
   where
     apart : ◌≡◌ {A = ℕ} 44 32 → ⊥
     apart e = omega (arith, e)
@@ -114,7 +115,7 @@ premises_at text k e = subst (λ z. Lift is_digit (OneKind PremisesParts) text (
 
 pub next-cert : Next is_digit is_digit SpellsCert
 next-cert = record {
-  sure = record { one = one_to SpellsCert unambiguous-cert.one; some = unambiguous-cert.some };
+  sure = record { one = unambiguous-cert.one; some = unambiguous-cert.some };
   joins = λ a t x s d. subst (λ z. Free is_digit (z ++ x)) (sym (s.spelled.joined ∙ ap (λ z. z ++ s.spelled.second) s.spelled.first_spelled)) refl;
 }
 

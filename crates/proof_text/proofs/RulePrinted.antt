@@ -19,8 +19,8 @@ use Rattle.text_pieces.specs.Printing.{Adds}
 use Rattle.text_pieces.specs.Separated.{Separated}
 use Rattle.text_pieces.proofs.Adding.{adds-cat, adds-image}
 use Rattle.cert_text.specs.Grammar.{Spells as SpellsCert}
-use Rattle.text_ends.specs.Fronts.{Front, Word}
-use Rattle.text_ends.proofs.Putting.{adds-word32, adds-number, adds-word, adds-as, adds-front, adds-kind}
+use Rattle.text_pieces.specs.Fronts.{Front, Word}
+use Rattle.text_pieces.proofs.Putting.{adds-word32, adds-number, adds-word, adds-as, adds-front, adds-kind}
 use Rattle.term_text.specs.Terms.{SpellsTerm}
 use Rattle.term_text.specs.Places.{SpellsSide, SpellsPlace}
 use Rattle.term_text.specs.Substitutions.{SpellsSubst}

@@ -11,11 +11,10 @@ use Rattle.proof_steps.specs.declared.steps.Derivation.{Derivation}
 use Rattle.text_pieces.specs.Decimals.{decimal}
 use Rattle.text_pieces.specs.Numbers.{Number, Word32}
 use Rattle.text_pieces.specs.Separated.{Tail}
-use Rattle.text_pieces.proofs.OneText.{Texts, text-cat, text-number}
+use Rattle.text_pieces.proofs.OneText.{Texts, text-cat, text-number, text-front, text-image, text-kinds, run_text, text-run}
 use Rattle.cert_text.specs.Grammar.{Spells as SpellsCert}
 use Rattle.cert_text.proofs.Ones.{cert_text, text-cert}
-use Rattle.text_ends.specs.Fronts.{Front, Word}
-use Rattle.text_ends.proofs.OneTexts.{text-front, text-image, text-kinds, run_text, text-run}
+use Rattle.text_pieces.specs.Fronts.{Front, Word}
 use Rattle.term_text.specs.Terms.{SpellsTerm}
 use Rattle.term_text.specs.Places.{SpellsSide, SpellsPlace, side_word}
 use Rattle.term_text.specs.Substitutions.{SpellsSubst}

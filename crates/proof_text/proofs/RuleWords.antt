@@ -4,9 +4,8 @@ use Rattle.std.specs.Prelude.{codes, ◌==◌, if◌then◌else◌}
 use Rattle.text_pieces.specs.Decimals.{is_digit}
 use Rattle.text_pieces.specs.Languages.{Reads, Fails, OneOf}
 use Rattle.text_pieces.proofs.WordFronts.{one_front-words}
-use Rattle.text_ends.specs.Ending.{ReadsTo, FailsTo}
-use Rattle.text_ends.proofs.Ends.{was_read, was_bad, same_fails, same_reads, one_to}
-use Rattle.text_ends.proofs.Lifts.{Sure}
+use Rattle.text_pieces.proofs.Ends.{same_fails, same_reads}
+use Rattle.text_pieces.proofs.Lifts.{Sure}
 use Rattle.proof_text.specs.declared.kinds.RuleKind.{RuleKind}
 use Rattle.proof_text.specs.declared.kinds.RuleKind.TheVariants.{Input, Superpose, Resolve, Factor, Abstract, Normal, Pin, Demodulate, Define, Close}
 use Rattle.proof_text.specs.declared.kinds.Status.{Status}
@@ -46,11 +45,11 @@ back Demodulate t h = (7, ap Some (sym h))
 back Define t h = (8, ap Some (sym h))
 back Close t h = (9, ap Some (sym h))
 
-pub rule_fails : {bytes : List ℕ} {left : ℕ} → Fails (OneOf rule_words) bytes left → FailsTo is_digit RuleWord bytes left
-rule_fails {bytes} {left} f = same_fails is_digit (OneOf rule_words) RuleWord (λ place t h. (rule_kind_at place, forth place t h)) back bytes left (was_bad f)
+pub rule_fails : {bytes : List ℕ} {left : ℕ} → Fails (OneOf rule_words) bytes left → Fails RuleWord bytes left
+rule_fails {bytes} {left} f = same_fails is_digit (OneOf rule_words) RuleWord (λ place t h. (rule_kind_at place, forth place t h)) back bytes left f
 
-pub rule_reads : {bytes rest : List ℕ} {place : ℕ} → Reads (OneOf rule_words) bytes place rest → ReadsTo is_digit RuleWord bytes (rule_kind_at place) rest
-rule_reads {bytes} {rest} {place} r = same_reads is_digit (OneOf rule_words) RuleWord place (rule_kind_at place) (forth place) bytes rest (was_read r)
+pub rule_reads : {bytes rest : List ℕ} {place : ℕ} → Reads (OneOf rule_words) bytes place rest → Reads RuleWord bytes (rule_kind_at place) rest
+rule_reads {bytes} {rest} {place} r = same_reads is_digit (OneOf rule_words) RuleWord place (rule_kind_at place) (forth place) bytes rest r
 
 -- no word begins another
 abbrev guess : List ℕ → RuleKind
@@ -71,7 +70,7 @@ known Define x = refl
 known Close x = refl
 
 pub sure-rule_word : Sure is_digit RuleWord
-sure-rule_word = record { one = one_to RuleWord (one_front-words rule_word guess known); some = record { value = Input; text = codes "input"; spelled = refl } }
+sure-rule_word = record { one = one_front-words rule_word guess known; some = record { value = Input; text = codes "input"; spelled = refl } }
 
 -- ---- headers
 abbrev variables : List (List ℕ)
@@ -86,11 +85,11 @@ variables_back : (b : Bool) (t : List ℕ) → VariablesWord b t → (place : �
 variables_back true t h = (0, ap Some (sym h))
 variables_back false t h = (1, ap Some (sym h))
 
-pub variables_fails : {bytes : List ℕ} {left : ℕ} → Fails (OneOf variables) bytes left → FailsTo is_digit VariablesWord bytes left
-variables_fails {bytes} {left} f = same_fails is_digit (OneOf variables) VariablesWord (λ place t h. (place == 0, variables_forth place t h)) variables_back bytes left (was_bad f)
+pub variables_fails : {bytes : List ℕ} {left : ℕ} → Fails (OneOf variables) bytes left → Fails VariablesWord bytes left
+variables_fails {bytes} {left} f = same_fails is_digit (OneOf variables) VariablesWord (λ place t h. (place == 0, variables_forth place t h)) variables_back bytes left f
 
-pub variables_reads : {bytes rest : List ℕ} {place : ℕ} → Reads (OneOf variables) bytes place rest → ReadsTo is_digit VariablesWord bytes (place == 0) rest
-variables_reads {bytes} {rest} {place} r = same_reads is_digit (OneOf variables) VariablesWord place (place == 0) (variables_forth place) bytes rest (was_read r)
+pub variables_reads : {bytes rest : List ℕ} {place : ℕ} → Reads (OneOf variables) bytes place rest → Reads VariablesWord bytes (place == 0) rest
+variables_reads {bytes} {rest} {place} r = same_reads is_digit (OneOf variables) VariablesWord place (place == 0) (variables_forth place) bytes rest r
 
 abbrev guess_variables : List ℕ → Bool
 guess_variables (a ∷ more) = a == 111
@@ -101,7 +100,7 @@ known_variables true x = refl
 known_variables false x = refl
 
 pub sure-variables_word : Sure is_digit VariablesWord
-sure-variables_word = record { one = one_to VariablesWord (one_front-words variables_word guess_variables known_variables); some = record { value = true; text = codes "ordinary"; spelled = refl } }
+sure-variables_word = record { one = one_front-words variables_word guess_variables known_variables; some = record { value = true; text = codes "ordinary"; spelled = refl } }
 
 -- ---- status lines
 abbrev statuses : List (List ℕ)
@@ -116,11 +115,11 @@ status_back : (s : Status) (t : List ℕ) → StatusWord s t → (place : ℕ) �
 status_back Theorem t h = (0, ap Some (sym h))
 status_back Unsatisfiable t h = (1, ap Some (sym h))
 
-pub status_fails : {bytes : List ℕ} {left : ℕ} → Fails (OneOf statuses) bytes left → FailsTo is_digit StatusWord bytes left
-status_fails {bytes} {left} f = same_fails is_digit (OneOf statuses) StatusWord (λ place t h. (status_at place, status_forth place t h)) status_back bytes left (was_bad f)
+pub status_fails : {bytes : List ℕ} {left : ℕ} → Fails (OneOf statuses) bytes left → Fails StatusWord bytes left
+status_fails {bytes} {left} f = same_fails is_digit (OneOf statuses) StatusWord (λ place t h. (status_at place, status_forth place t h)) status_back bytes left f
 
-pub status_reads : {bytes rest : List ℕ} {place : ℕ} → Reads (OneOf statuses) bytes place rest → ReadsTo is_digit StatusWord bytes (status_at place) rest
-status_reads {bytes} {rest} {place} r = same_reads is_digit (OneOf statuses) StatusWord place (status_at place) (status_forth place) bytes rest (was_read r)
+pub status_reads : {bytes rest : List ℕ} {place : ℕ} → Reads (OneOf statuses) bytes place rest → Reads StatusWord bytes (status_at place) rest
+status_reads {bytes} {rest} {place} r = same_reads is_digit (OneOf statuses) StatusWord place (status_at place) (status_forth place) bytes rest r
 
 abbrev guess_status : List ℕ → Status
 guess_status (a ∷ more) = if a == 84 then Theorem else Unsatisfiable
@@ -131,4 +130,4 @@ known_status Theorem x = refl
 known_status Unsatisfiable x = refl
 
 pub sure-status_word : Sure is_digit StatusWord
-sure-status_word = record { one = one_to StatusWord (one_front-words status_word guess_status known_status); some = record { value = Theorem; text = codes "Theorem"; spelled = refl } }
+sure-status_word = record { one = one_front-words status_word guess_status known_status; some = record { value = Theorem; text = codes "Theorem"; spelled = refl } }

@@ -4,19 +4,20 @@ use Rattle.std.specs.Prelude.{codes}
 use Rattle.std.proofs.lemmas.Bool.Decides.{nat_tests}
 use Rattle.proof_steps.specs.declared.steps.Step.{Step}
 use Rattle.text_pieces.specs.Decimals.{is_digit}
-use Rattle.text_pieces.specs.Languages.{Cat}
+use Rattle.text_pieces.specs.Languages.{Cat, ReadsTo, FailsTo}
 use Rattle.text_pieces.specs.Numbers.{Number, Within}
 use Rattle.text_pieces.specs.declared.bad_texts.Unread.{Unread}
 use Rattle.text_pieces.proofs.Digits.{digit_below}
 use Rattle.text_pieces.proofs.Reaching.{decimal_head}
-use Rattle.text_ends.specs.Ending.{ReadsTo, FailsTo, UnreadTo, no_byte}
-use Rattle.text_ends.specs.Fronts.{Front, NoFront}
-use Rattle.text_ends.specs.Kinds.{kind_at}
-use Rattle.text_ends.proofs.Ends.{free_none}
-use Rattle.text_ends.proofs.Lifts.{Lift, unread_on, Sure, Next, sure-cat, sure-image}
-use Rattle.text_ends.proofs.Words.{sure-front, next-front}
-use Rattle.text_ends.proofs.Kinded.{Told}
-use Rattle.text_ends.proofs.Running.{Runs, sure-run, run_more, run_fails, run_end, run_no_end, one_more}
+use Rattle.text_pieces.specs.Failing.{UnreadTo}
+use Rattle.text_pieces.specs.Ending.{no_byte}
+use Rattle.text_pieces.specs.Fronts.{Front, NoFront}
+use Rattle.text_pieces.specs.Kinds.{kind_at}
+use Rattle.text_pieces.proofs.Ends.{free_none}
+use Rattle.text_pieces.proofs.Lifts.{Lift, unread_on, Sure, Next, sure-cat, sure-image}
+use Rattle.text_pieces.proofs.WordReading.{sure-front, next-front}
+use Rattle.text_pieces.proofs.Kinded.{Told}
+use Rattle.text_pieces.proofs.Running.{Runs, sure-run, run_more, run_fails, run_end, run_no_end, one_more}
 use Rattle.term_text.specs.Clauses.{SpellsClauseLine}
 use Rattle.term_text.proofs.VariableFronts.{sure-number}
 use Rattle.term_text.proofs.ClauseReading.{sure-clause_line}

@@ -7,8 +7,8 @@ use Rattle.proof_steps.specs.declared.steps.Step.{Step}
 use Rattle.proof_steps.specs.declared.steps.Derivation.{Derivation}
 use Rattle.text_pieces.specs.Languages.{Cat, Image}
 use Rattle.text_pieces.specs.Numbers.{Number, Within}
-use Rattle.text_ends.specs.Fronts.{Front}
-use Rattle.text_ends.specs.Runs.{Run}
+use Rattle.text_pieces.specs.Fronts.{Front}
+use Rattle.text_pieces.specs.Runs.{Run}
 use Rattle.term_text.specs.Clauses.{SpellsClauseLine}
 use Rattle.proof_text.specs.declared.kinds.Status.{Status}
 use Rattle.proof_text.specs.declared.kinds.Status.TheVariants.{Theorem, Unsatisfiable}

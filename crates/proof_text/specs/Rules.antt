@@ -12,8 +12,8 @@ use Rattle.text_pieces.specs.Numbers.{Number, Word32}
 use Rattle.text_pieces.specs.Separated.{Separated}
 use Rattle.cert_text.specs.Grammar.{Spells as SpellsCert}
 use Rattle.cert_text.specs.Spelled.{is_spelled}
-use Rattle.text_ends.specs.Fronts.{Front, Word}
-use Rattle.text_ends.specs.Kinds.{OneKind}
+use Rattle.text_pieces.specs.Fronts.{Front, Word}
+use Rattle.text_pieces.specs.Kinds.{OneKind}
 use Rattle.term_text.specs.Terms.{SpellsTerm}
 use Rattle.term_text.specs.Places.{SpellsSide, SpellsPlace}
 use Rattle.term_text.specs.Substitutions.{SpellsSubst}

@@ -1,10 +1,9 @@
 //! The words of rules, headers and status lines.
 
 ghost use Rattle.std.specs.Prelude.{◌≡◌, MatchResult};
-ghost use Rattle.text_pieces.specs.Decimals.{is_digit};
-ghost use Rattle.text_ends.specs.Ending.{ReadsTo, FailsTo};
 ghost use Rattle.proof_text.specs.Derivations as spec;
 ghost use Rattle.proof_text.specs.Rules as rules;
+ghost use Rattle.text_pieces.specs.Languages.{Fails, Reads};
 
 use text_pieces::{Bad, one_of};
 
@@ -79,8 +78,8 @@ fn rule_kind_at(place: usize) -> RuleKind
 
 /// The word of a rule, and what follows. Bad at the first byte with which none goes on.
 pub fn rule_kind(text: &[u8]) -> Result<(RuleKind, &[u8]), Bad>
-    ensures { MatchResult result (λ f. ReadsTo is_digit rules.RuleWord text.now f.0 f.1.now)
-        (λ e. FailsTo is_digit rules.RuleWord text.now e.left) }
+    ensures { MatchResult result (λ f. Reads rules.RuleWord text.now f.0 f.1.now)
+        (λ e. Fails rules.RuleWord text.now e.left) }
 {
     let (place, rest) = one_of(text, &RULES)?;
     Ok((rule_kind_at(place), rest))
@@ -106,8 +105,8 @@ pub fn rule_word(kind: RuleKind) -> &'static [u8]
 
 /// The word for the variables of clauses with a foreground symbol, and what follows. Bad at the first byte with which none goes on.
 pub fn is_ordinary(text: &[u8]) -> Result<(bool, &[u8]), Bad>
-    ensures { MatchResult result (λ f. ReadsTo is_digit spec.VariablesWord text.now f.0 f.1.now)
-        (λ e. FailsTo is_digit spec.VariablesWord text.now e.left) }
+    ensures { MatchResult result (λ f. Reads spec.VariablesWord text.now f.0 f.1.now)
+        (λ e. Fails spec.VariablesWord text.now e.left) }
 {
     let (place, rest) = one_of(text, &VARIABLES)?;
     Ok((place == 0, rest))
@@ -136,8 +135,8 @@ fn status_at(place: usize) -> Status
 
 /// The word of a status, and what follows. Bad at the first byte with which none goes on.
 pub fn szs_status(text: &[u8]) -> Result<(Status, &[u8]), Bad>
-    ensures { MatchResult result (λ f. ReadsTo is_digit spec.StatusWord text.now f.0 f.1.now)
-        (λ e. FailsTo is_digit spec.StatusWord text.now e.left) }
+    ensures { MatchResult result (λ f. Reads spec.StatusWord text.now f.0 f.1.now)
+        (λ e. Fails spec.StatusWord text.now e.left) }
 {
     let (place, rest) = one_of(text, &STATUSES)?;
     Ok((status_at(place), rest))

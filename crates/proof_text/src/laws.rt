@@ -12,7 +12,8 @@ pub fn one_derivation()
 
 /// Two spellings of one derivation are equal.
 pub fn one_spelling()
-    ensures { (d : Derivation) (text other : List ℕ) → SpellsDerivation d text → SpellsDerivation d other → text ≡ other }
+    ensures { (d : Derivation) (text other : List ℕ)
+        → SpellsDerivation d text → SpellsDerivation d other → text ≡ other }
 {}
 
 /// Bytes that spell a derivation with its status line spell no other one, nor another status.

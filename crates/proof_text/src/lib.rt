@@ -8,8 +8,6 @@ mod rule_printing;
 mod rules;
 mod step_printing;
 mod steps;
-#[cfg(test)]
-mod tests;
 
 pub use cert_text::{BadText, TextError};
 pub use derivations::{parse_derivation, parse_text, print_derivation, print_text};

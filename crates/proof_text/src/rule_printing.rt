@@ -4,7 +4,7 @@ ghost use Rattle.std.specs.Prelude.{true, IsTrue, OnOk};
 ghost use Rattle.text_pieces.specs.Numbers.{Number, Word32};
 ghost use Rattle.text_pieces.specs.Printing.{Adds};
 ghost use Rattle.cert_text.specs.Spelled.{is_spelled};
-ghost use Rattle.text_ends.specs.Fronts.{Front};
+ghost use Rattle.text_pieces.specs.Fronts.{Front};
 ghost use Rattle.proof_steps.specs.declared.steps.Rule.TheVariants as rule;
 ghost use Rattle.proof_text.specs.Rules.{Index, Written, At, Sided, Premises, SpellsRule, rule_is_spelled};
 
@@ -64,7 +64,8 @@ fn push_superpose(
     s1: &Subst,
     s2: &Subst,
 ) -> Result<(), AllocError>
-    ensures { OnOk result (Adds SpellsRule (rule.Superpose from.0 from.1 from.2 into place.now s1.now s2.now) text.old.items text.new.items) }
+    ensures { OnOk result (Adds SpellsRule (rule.Superpose from.0 from.1 from.2 into place.now s1.now s2.now)
+        text.old.items text.new.items) }
 {
     push(text, b"superpose")?;
     push_index(alloc, text, from.0)?;
@@ -100,7 +101,8 @@ fn push_factor(
     second: (u32, Side),
     s1: &Subst,
 ) -> Result<(), AllocError>
-    ensures { OnOk result (Adds SpellsRule (rule.Factor of first.0 first.1 second.0 second.1 s1.now) text.old.items text.new.items) }
+    ensures { OnOk result (Adds SpellsRule (rule.Factor of first.0 first.1 second.0 second.1 s1.now)
+        text.old.items text.new.items) }
 {
     push(text, b"factor")?;
     push_index(alloc, text, of)?;
@@ -125,7 +127,8 @@ fn push_demodulate(
     by: (u32, Side),
     s1: &Subst,
 ) -> Result<(), AllocError>
-    ensures { OnOk result (Adds SpellsRule (rule.Demodulate of place.now by.0 by.1 s1.now) text.old.items text.new.items) }
+    ensures { OnOk result (Adds SpellsRule (rule.Demodulate of place.now by.0 by.1 s1.now)
+        text.old.items text.new.items) }
 {
     push(text, b"demodulate")?;
     push_index(alloc, text, of)?;

@@ -1,9 +1,10 @@
 //! Rules.
 
 ghost use Rattle.std.specs.Prelude.{false, codes, MatchResult};
-ghost use Rattle.text_pieces.specs.Decimals.{is_digit};
-ghost use Rattle.text_ends.specs.Ending.{ReadsTo, FailsTo, UnreadTo, is_digit_or_bracket, no_byte};
-ghost use Rattle.text_ends.specs.Fronts.{Front};
+ghost use Rattle.text_pieces.specs.Languages.{ReadsTo, Fails, Reads};
+ghost use Rattle.text_pieces.specs.Failing.{UnreadTo, Unreadable};
+ghost use Rattle.text_pieces.specs.Ending.{is_digit_or_bracket, no_byte};
+ghost use Rattle.text_pieces.specs.Fronts.{Front};
 ghost use Rattle.text_pieces.specs.Numbers.{Number, Word32};
 ghost use Rattle.term_text.specs.Terms.{SpellsTerm};
 ghost use Rattle.proof_text.specs.Rules.{Index, Written, At, Sided, Premises, PremisesParts, RuleParts, SpellsRule};
@@ -16,21 +17,20 @@ use sqlite_items::Items;
 use std::alloc::Global;
 use term_base::{Place, Side, Subst, Term};
 use term_text::{place, side, substitution, term};
-use text_ends::{begins_with, front};
-use text_pieces::{Bad, Reader, Unread, exactly, separated, word32};
+use text_pieces::{Bad, Reader, Unread, begins_with, exactly, front, separated, word32};
 
 // A blank and the number of a clause, a step or a literal.
 fn index(text: &[u8]) -> Result<(u32, &[u8]), Bad>
-    ensures { MatchResult result (λ f. ReadsTo is_digit Index text.now f.0 f.1.now)
-        (λ e. FailsTo is_digit Index text.now e.left) }
+    ensures { MatchResult result (λ f. Reads Index text.now f.0 f.1.now)
+        (λ e. Fails Index text.now e.left) }
 {
     let behind = front(text, b" ")?;
     word32(behind)
 }
 
 // A blank and a substitution, which no digit follows.
-fn written(alloc: Global, text: &[u8]) -> Result<(Subst, &[u8]), Unread>
-    ensures { MatchResult result (λ f. ReadsTo is_digit Written text.now f.0 f.1.now) (UnreadTo is_digit Written text.now) }
+fn blank_substitution(alloc: Global, text: &[u8]) -> Result<(Subst, &[u8]), Unread>
+    ensures { MatchResult result (λ f. Reads Written text.now f.0 f.1.now) (Unreadable Written text.now) }
 {
     let behind = front(text, b" ")?;
     let (s, rest) = substitution(alloc, behind)?;
@@ -47,9 +47,9 @@ fn at(alloc: Global, text: &[u8]) -> Result<(Place, &[u8]), Unread>
 }
 
 // A dot and the number of a literal.
-fn dotted(text: &[u8]) -> Result<(u32, &[u8]), Bad>
-    ensures { MatchResult result (λ f. ReadsTo is_digit (Front (codes ".") (Number Word32)) text.now f.0 f.1.now)
-        (λ e. FailsTo is_digit (Front (codes ".") (Number Word32)) text.now e.left) }
+fn dot_and_literal(text: &[u8]) -> Result<(u32, &[u8]), Bad>
+    ensures { MatchResult result (λ f. Reads (Front (codes ".") (Number Word32)) text.now f.0 f.1.now)
+        (λ e. Fails (Front (codes ".") (Number Word32)) text.now e.left) }
 {
     let behind = front(text, b".")?;
     word32(behind)
@@ -65,9 +65,9 @@ fn blank_term(alloc: Global, text: &[u8]) -> Result<(Term, &[u8]), Unread>
 }
 
 // A blank, the number of a literal and a side.
-fn sided(text: &[u8]) -> Result<((u32, Side), &[u8]), Bad>
-    ensures { MatchResult result (λ f. ReadsTo is_digit Sided text.now f.0 f.1.now)
-        (λ e. FailsTo is_digit Sided text.now e.left) }
+fn literal_and_side(text: &[u8]) -> Result<((u32, Side), &[u8]), Bad>
+    ensures { MatchResult result (λ f. Reads Sided text.now f.0 f.1.now)
+        (λ e. Fails Sided text.now e.left) }
 {
     let (literal, behind) = index(text)?;
     let (side, rest) = side(behind)?;
@@ -89,16 +89,16 @@ impl Reader for ReadStep {
 
 // One premise or more, and the blank behind the last.
 fn some_premises(alloc: Global, text: &[u8]) -> Result<(Items<u32>, &[u8]), Unread>
-    ensures { MatchResult result (λ f. ReadsTo is_digit (PremisesParts false) text.now f.0 f.1.now)
-        (UnreadTo is_digit (PremisesParts false) text.now) }
+    ensures { MatchResult result (λ f. Reads (PremisesParts false) text.now f.0 f.1.now)
+        (Unreadable (PremisesParts false) text.now) }
 {
     separated::<ReadStep>(alloc, text, b',', b' ')
 }
 
 // Premises between blanks.
 fn premises(alloc: Global, text: &[u8]) -> Result<(Items<u32>, &[u8]), Unread>
-    ensures { MatchResult result (λ f. ReadsTo is_digit Premises text.now f.0 f.1.now)
-        (UnreadTo is_digit Premises text.now) }
+    ensures { MatchResult result (λ f. Reads Premises text.now f.0 f.1.now)
+        (Unreadable Premises text.now) }
 {
     let behind = front(text, b" ")?;
     if begins_with(behind, b'-') {
@@ -110,8 +110,8 @@ fn premises(alloc: Global, text: &[u8]) -> Result<(Items<u32>, &[u8]), Unread>
 
 // What stands behind `input`.
 fn input(text: &[u8]) -> Result<(Rule, &[u8]), Unread>
-    ensures { MatchResult result (λ f. ReadsTo is_digit (RuleParts kind.Input) text.now f.0 f.1.now)
-        (UnreadTo is_digit (RuleParts kind.Input) text.now) }
+    ensures { MatchResult result (λ f. Reads (RuleParts kind.Input) text.now f.0 f.1.now)
+        (Unreadable (RuleParts kind.Input) text.now) }
 {
     let (clause, rest) = index(text)?;
     Ok((Rule::Input { clause }, rest))
@@ -119,16 +119,16 @@ fn input(text: &[u8]) -> Result<(Rule, &[u8]), Unread>
 
 // What stands behind `superpose`.
 fn superpose(alloc: Global, text: &[u8]) -> Result<(Rule, &[u8]), Unread>
-    ensures { MatchResult result (λ f. ReadsTo is_digit (RuleParts kind.Superpose) text.now f.0 f.1.now)
-        (UnreadTo is_digit (RuleParts kind.Superpose) text.now) }
+    ensures { MatchResult result (λ f. Reads (RuleParts kind.Superpose) text.now f.0 f.1.now)
+        (Unreadable (RuleParts kind.Superpose) text.now) }
 {
     let (from, after_from) = index(text)?;
-    let (literal, after_literal) = dotted(after_from)?;
+    let (literal, after_literal) = dot_and_literal(after_from)?;
     let (side, after_side) = side(after_literal)?;
     let (into, after_into) = index(after_side)?;
     let (place, after_place) = at(alloc, after_into)?;
     let (s1, after_s1) = substitution(alloc, after_place)?;
-    let (s2, rest) = written(alloc, after_s1)?;
+    let (s2, rest) = blank_substitution(alloc, after_s1)?;
     let rule = Rule::Superpose {
         from,
         literal,
@@ -143,24 +143,24 @@ fn superpose(alloc: Global, text: &[u8]) -> Result<(Rule, &[u8]), Unread>
 
 // What stands behind `resolve`.
 fn resolve(alloc: Global, text: &[u8]) -> Result<(Rule, &[u8]), Unread>
-    ensures { MatchResult result (λ f. ReadsTo is_digit (RuleParts kind.Resolve) text.now f.0 f.1.now)
-        (UnreadTo is_digit (RuleParts kind.Resolve) text.now) }
+    ensures { MatchResult result (λ f. Reads (RuleParts kind.Resolve) text.now f.0 f.1.now)
+        (Unreadable (RuleParts kind.Resolve) text.now) }
 {
     let (of, after_of) = index(text)?;
     let (literal, after_literal) = index(after_of)?;
-    let (s1, rest) = written(alloc, after_literal)?;
+    let (s1, rest) = blank_substitution(alloc, after_literal)?;
     Ok((Rule::Resolve { of, literal, s1 }, rest))
 }
 
 // What stands behind `factor`.
 fn factor(alloc: Global, text: &[u8]) -> Result<(Rule, &[u8]), Unread>
-    ensures { MatchResult result (λ f. ReadsTo is_digit (RuleParts kind.Factor) text.now f.0 f.1.now)
-        (UnreadTo is_digit (RuleParts kind.Factor) text.now) }
+    ensures { MatchResult result (λ f. Reads (RuleParts kind.Factor) text.now f.0 f.1.now)
+        (Unreadable (RuleParts kind.Factor) text.now) }
 {
     let (of, after_of) = index(text)?;
-    let (one, after_one) = sided(after_of)?;
-    let (two, after_two) = sided(after_one)?;
-    let (s1, rest) = written(alloc, after_two)?;
+    let (one, after_one) = literal_and_side(after_of)?;
+    let (two, after_two) = literal_and_side(after_one)?;
+    let (s1, rest) = blank_substitution(alloc, after_two)?;
     let (first, first_side) = one;
     let (second, second_side) = two;
     let rule = Rule::Factor {
@@ -176,8 +176,8 @@ fn factor(alloc: Global, text: &[u8]) -> Result<(Rule, &[u8]), Unread>
 
 // What stands behind `abstract`.
 fn abstraction(text: &[u8]) -> Result<(Rule, &[u8]), Unread>
-    ensures { MatchResult result (λ f. ReadsTo is_digit (RuleParts kind.Abstract) text.now f.0 f.1.now)
-        (UnreadTo is_digit (RuleParts kind.Abstract) text.now) }
+    ensures { MatchResult result (λ f. Reads (RuleParts kind.Abstract) text.now f.0 f.1.now)
+        (Unreadable (RuleParts kind.Abstract) text.now) }
 {
     let (of, rest) = index(text)?;
     Ok((Rule::Abstract { of }, rest))
@@ -185,8 +185,8 @@ fn abstraction(text: &[u8]) -> Result<(Rule, &[u8]), Unread>
 
 // What stands behind `normal`.
 fn normal(text: &[u8]) -> Result<(Rule, &[u8]), Unread>
-    ensures { MatchResult result (λ f. ReadsTo is_digit (RuleParts kind.Normal) text.now f.0 f.1.now)
-        (UnreadTo is_digit (RuleParts kind.Normal) text.now) }
+    ensures { MatchResult result (λ f. Reads (RuleParts kind.Normal) text.now f.0 f.1.now)
+        (Unreadable (RuleParts kind.Normal) text.now) }
 {
     let (of, rest) = index(text)?;
     Ok((Rule::Normal { of }, rest))
@@ -194,8 +194,8 @@ fn normal(text: &[u8]) -> Result<(Rule, &[u8]), Unread>
 
 // What stands behind `pin`.
 fn pin(text: &[u8]) -> Result<(Rule, &[u8]), Unread>
-    ensures { MatchResult result (λ f. ReadsTo is_digit (RuleParts kind.Pin) text.now f.0 f.1.now)
-        (UnreadTo is_digit (RuleParts kind.Pin) text.now) }
+    ensures { MatchResult result (λ f. Reads (RuleParts kind.Pin) text.now f.0 f.1.now)
+        (Unreadable (RuleParts kind.Pin) text.now) }
 {
     let (of, after_of) = index(text)?;
     let (literal, rest) = index(after_of)?;
@@ -204,14 +204,14 @@ fn pin(text: &[u8]) -> Result<(Rule, &[u8]), Unread>
 
 // What stands behind `demodulate`.
 fn demodulate(alloc: Global, text: &[u8]) -> Result<(Rule, &[u8]), Unread>
-    ensures { MatchResult result (λ f. ReadsTo is_digit (RuleParts kind.Demodulate) text.now f.0 f.1.now)
-        (UnreadTo is_digit (RuleParts kind.Demodulate) text.now) }
+    ensures { MatchResult result (λ f. Reads (RuleParts kind.Demodulate) text.now f.0 f.1.now)
+        (Unreadable (RuleParts kind.Demodulate) text.now) }
 {
     let (of, after_of) = index(text)?;
     let (place, after_place) = at(alloc, after_of)?;
     let (by, after_by) = word32(after_place)?;
     let (side, after_side) = side(after_by)?;
-    let (s1, rest) = written(alloc, after_side)?;
+    let (s1, rest) = blank_substitution(alloc, after_side)?;
     let rule = Rule::Demodulate {
         of,
         place,
@@ -224,8 +224,8 @@ fn demodulate(alloc: Global, text: &[u8]) -> Result<(Rule, &[u8]), Unread>
 
 // What stands behind `define`.
 fn define(alloc: Global, text: &[u8]) -> Result<(Rule, &[u8]), Unread>
-    ensures { MatchResult result (λ f. ReadsTo is_digit (RuleParts kind.Define) text.now f.0 f.1.now)
-        (UnreadTo is_digit (RuleParts kind.Define) text.now) }
+    ensures { MatchResult result (λ f. Reads (RuleParts kind.Define) text.now f.0 f.1.now)
+        (Unreadable (RuleParts kind.Define) text.now) }
 {
     let (term, after_term) = blank_term(alloc, text)?;
     let at_symbol = front(after_term, b" s")?;
@@ -235,8 +235,8 @@ fn define(alloc: Global, text: &[u8]) -> Result<(Rule, &[u8]), Unread>
 
 // What stands behind `close`.
 fn close(alloc: Global, text: &[u8]) -> Result<(Rule, &[u8]), Unread>
-    ensures { MatchResult result (λ f. ReadsTo is_digit (RuleParts kind.Close) text.now f.0 f.1.now)
-        (UnreadTo is_digit (RuleParts kind.Close) text.now) }
+    ensures { MatchResult result (λ f. Reads (RuleParts kind.Close) text.now f.0 f.1.now)
+        (Unreadable (RuleParts kind.Close) text.now) }
 {
     let (of, after_of) = premises(alloc, text)?;
     let (cert, rest) = cert(alloc, after_of)?;
@@ -245,8 +245,8 @@ fn close(alloc: Global, text: &[u8]) -> Result<(Rule, &[u8]), Unread>
 
 /// The rule in front of the bytes, and what follows. Bad at the first byte with which none goes on.
 pub fn rule(alloc: Global, text: &[u8]) -> Result<(Rule, &[u8]), Unread>
-    ensures { MatchResult result (λ f. ReadsTo is_digit SpellsRule text.now f.0 f.1.now)
-        (UnreadTo is_digit SpellsRule text.now) }
+    ensures { MatchResult result (λ f. Reads SpellsRule text.now f.0 f.1.now)
+        (Unreadable SpellsRule text.now) }
 {
     let (kind, rest) = rule_kind(text)?;
     match kind {

@@ -1,8 +1,10 @@
 //! Steps, and derivations in front of bytes.
 
 ghost use Rattle.std.specs.Prelude.{◌≡◌, false, MatchResult};
-ghost use Rattle.text_ends.specs.Ending.{ReadsTo, UnreadTo, no_byte};
-ghost use Rattle.text_ends.specs.Kinds.{kind_at};
+ghost use Rattle.text_pieces.specs.Languages.{ReadsTo};
+ghost use Rattle.text_pieces.specs.Failing.{UnreadTo};
+ghost use Rattle.text_pieces.specs.Ending.{no_byte};
+ghost use Rattle.text_pieces.specs.Kinds.{kind_at};
 ghost use Rattle.proof_text.specs.Derivations.{StepLine, StepLines, SpellsDerivation, Spells, isnt_end};
 
 use crate::kinds::{Status, is_ordinary, szs_status};
@@ -11,8 +13,7 @@ use proof_steps::{Derivation, Step};
 use sqlite_items::Items;
 use std::alloc::Global;
 use term_text::clause_line;
-use text_ends::front;
-use text_pieces::{Unread, number};
+use text_pieces::{Unread, front, number};
 
 // The line of the step of this number.
 fn step(alloc: Global, text: &[u8], n: usize) -> Result<(Step, &[u8]), Unread>

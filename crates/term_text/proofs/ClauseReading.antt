@@ -7,18 +7,20 @@ use Rattle.term_base.specs.declared.variables.Variable.{Variable}
 use Rattle.term_base.specs.declared.clauses.Literal.{Literal}
 use Rattle.term_base.specs.declared.clauses.Clause.{Clause}
 use Rattle.text_pieces.specs.Decimals.{is_digit, signed_decimal}
-use Rattle.text_pieces.specs.Languages.{Cat}
+use Rattle.text_pieces.specs.Languages.{Cat, Free, ReadsTo, FailsTo}
 use Rattle.text_pieces.specs.declared.bad_texts.Unread.{Unread}
 use Rattle.text_pieces.proofs.Digits.{digit_below}
 use Rattle.text_pieces.proofs.Reaching.{decimal_head}
-use Rattle.text_ends.specs.Ending.{Free, ReadsTo, FailsTo, UnreadTo, OneFrontTo, is_digit_or_bracket, no_byte}
-use Rattle.text_ends.specs.Fronts.{Front, NoFront}
-use Rattle.text_ends.specs.Kinds.{kind_at}
-use Rattle.text_ends.proofs.Ends.{free_none, one_front-image}
-use Rattle.text_ends.proofs.Lifts.{Lift, lift-behind, unread_on, Sure, Next, sure-cat, sure-image}
-use Rattle.text_ends.proofs.Words.{sure-word, sure-front, next-front}
-use Rattle.text_ends.proofs.Kinded.{Told, kinded, sure-kinds}
-use Rattle.text_ends.proofs.Running.{Runs, next-run, run_more, run_fails, run_end, run_no_end, one_more, there, not_there}
+use Rattle.text_pieces.specs.Failing.{UnreadTo}
+use Rattle.text_pieces.specs.Unambiguous.{OneFrontTo}
+use Rattle.text_pieces.specs.Ending.{is_digit_or_bracket, no_byte}
+use Rattle.text_pieces.specs.Fronts.{Front, NoFront}
+use Rattle.text_pieces.specs.Kinds.{kind_at}
+use Rattle.text_pieces.proofs.Ends.{free_none, one_front-image}
+use Rattle.text_pieces.proofs.Lifts.{Lift, lift-behind, unread_on, Sure, Next, sure-cat, sure-image}
+use Rattle.text_pieces.proofs.WordReading.{sure-word, sure-front, next-front}
+use Rattle.text_pieces.proofs.Kinded.{Told, kinded, sure-kinds}
+use Rattle.text_pieces.proofs.Running.{Runs, next-run, run_more, run_fails, run_end, run_no_end, one_more, there, not_there}
 use Rattle.term_text.specs.declared.kinds.TermKind.{TermKind}
 use Rattle.term_text.specs.declared.kinds.TermKind.TheVariants.{Variable as VariableTerm, Number as NumberTerm, Truth, Bracket, Symbol}
 use Rattle.term_text.specs.declared.kinds.VariableKind.{VariableKind}

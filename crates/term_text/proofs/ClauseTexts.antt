@@ -10,10 +10,9 @@ use Rattle.term_base.specs.declared.places.Place.{Place}
 use Rattle.text_pieces.specs.Decimals.{decimal}
 use Rattle.text_pieces.specs.Languages.{Cat}
 use Rattle.text_pieces.specs.Numbers.{Number, Word32}
-use Rattle.text_pieces.proofs.OneText.{Texts, text-cat, text-number}
-use Rattle.clause_text.specs.Text.{variable_text, term_text, literal_text, clause_text, behind}
-use Rattle.text_ends.specs.Fronts.{Front, Word}
-use Rattle.text_ends.proofs.OneTexts.{text-front, text-image, text-kinds, run_text, text-run}
+use Rattle.text_pieces.proofs.OneText.{Texts, text-cat, text-number, text-front, text-image, text-kinds, run_text, text-run}
+use Rattle.term_text.specs.Texts.{variable_text, term_text, literal_text, clause_text, behind}
+use Rattle.text_pieces.specs.Fronts.{Front, Word}
 use Rattle.term_text.specs.declared.kinds.Relation.{Relation}
 use Rattle.term_text.specs.declared.kinds.Relation.TheVariants.{Equal, Differ, AtMost}
 use Rattle.term_text.specs.Terms.{SpellsTerm}

@@ -15,3 +15,5 @@ pub mod Printed
 pub mod SubstReading
 pub mod OtherTerms
 pub mod OwnTexts
+mod RowLemmas
+mod ExactTexts

@@ -11,16 +11,17 @@ use Rattle.term_base.specs.SameTerm.{same_term, same_term-true, same_term-refl}
 use Rattle.term_base.specs.Trees.{tree, var}
 use Rattle.term_base.specs.TreeOf.{tree-Var}
 use Rattle.term_base.specs.TermFolds.{fold-Var}
-use Rattle.clause_text.specs.Text.{variable_text, term_step}
+use Rattle.term_text.specs.Texts.{variable_text, term_step}
 use Rattle.text_pieces.specs.Decimals.{is_digit, decimal}
-use Rattle.text_pieces.specs.Languages.{GoesOn, StopsAt, HasSpelling}
+use Rattle.text_pieces.specs.Languages.{GoesOn, StopsAt, HasSpelling, Free, ReadsTo, FailsTo}
 use Rattle.text_pieces.specs.Numbers.{Number, Word32}
 use Rattle.text_pieces.proofs.Digits.{decimal_digit, decimal_step}
 use Rattle.text_pieces.proofs.Reaching.{one_decimal, one_more_digit, longer}
 use Rattle.text_pieces.proofs.Joining.{Fronts, within, beyond, fronts, head_same, tail_same, not_longer}
-use Rattle.text_ends.specs.Ending.{Free, ReadsTo, FailsTo, UnreadTo, is_digit_or_bracket}
+use Rattle.text_pieces.specs.Failing.{UnreadTo}
+use Rattle.text_pieces.specs.Ending.{is_digit_or_bracket}
 use Rattle.text_pieces.specs.declared.bad_texts.Unread.{Unread}
-use Rattle.text_ends.proofs.Lifts.{unread_on}
+use Rattle.text_pieces.proofs.Lifts.{unread_on}
 use Rattle.term_text.specs.declared.kinds.VariableKind.{VariableKind}
 use Rattle.term_text.specs.declared.kinds.VariableKind.TheVariants.{Abstraction, Individual, Int, Declared}
 use Rattle.term_text.specs.declared.kinds.TermKind.TheVariants.{Variable as VariableTerm}

@@ -1,10 +1,10 @@
 -- The text of a variable as it is printed, and whether it stands in front.
 use Rattle.std.proofs.Common.{◌≡◌, ℕ, List, [], ◌∷◌, ◌++◌, sym, ap, ◌∙◌, append_assoc}
 use Rattle.term_base.specs.declared.variables.Variable.{Variable}
-use Rattle.clause_text.specs.Text.{variable_text}
+use Rattle.term_text.specs.Texts.{variable_text}
 use Rattle.text_pieces.specs.Printing.{Adds}
 use Rattle.text_pieces.proofs.Joining.{drop_front}
-use Rattle.text_ends.specs.Fronts.{NoFront}
+use Rattle.text_pieces.specs.Fronts.{NoFront}
 use Rattle.term_text.specs.Variables.{SpellsVariable}
 use Rattle.term_text.proofs.TermTexts.{text-variable}
 

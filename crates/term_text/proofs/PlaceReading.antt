@@ -4,14 +4,14 @@ use Rattle.std.specs.Prelude.{codes, ◌==◌}
 use Rattle.term_base.specs.declared.places.Side.{Side}
 use Rattle.term_base.specs.declared.places.Side.TheVariants.{Left, Right}
 use Rattle.text_pieces.specs.Decimals.{is_digit}
-use Rattle.text_pieces.specs.Languages.{Cat}
+use Rattle.text_pieces.specs.Languages.{Cat, Free, ReadsTo, FailsTo, Fails, Reads}
 use Rattle.text_pieces.specs.Numbers.{Number, Word32}
-use Rattle.text_ends.specs.Ending.{Free, ReadsTo, FailsTo, no_byte}
-use Rattle.text_ends.specs.Fronts.{Front, NoFront}
-use Rattle.text_ends.proofs.Ends.{free_none, joins-first}
-use Rattle.text_ends.proofs.Lifts.{Lift, lift-behind, Sure, Next, sure-cat, sure-image}
-use Rattle.text_ends.proofs.Words.{sure-front}
-use Rattle.text_ends.proofs.Running.{Runs, next-run, run_more, run_fails, run_end, run_no_end, one_more, there, not_there}
+use Rattle.text_pieces.specs.Ending.{no_byte}
+use Rattle.text_pieces.specs.Fronts.{Front, NoFront}
+use Rattle.text_pieces.proofs.Ends.{free_none, joins-first}
+use Rattle.text_pieces.proofs.Lifts.{Lift, lift-behind, Sure, Next, sure-cat, sure-image}
+use Rattle.text_pieces.proofs.WordReading.{sure-front}
+use Rattle.text_pieces.proofs.Running.{Runs, next-run, run_more, run_fails, run_end, run_no_end, one_more, there, not_there}
 use Rattle.term_text.specs.Places.{SpellsSide, SpellsPath, SpellsPlace, place_of}
 use Rattle.term_text.proofs.VariableFronts.{sure-word32}
 use Rattle.term_text.proofs.Words.{sure-side}
@@ -50,12 +50,12 @@ On text rest all = Lift no_byte SpellsPath text SpellsPath rest (λ ns. all ++ n
 pub step_none : (text : List ℕ) → On text text []
 step_none text = record { fails = λ left f. f; reads = λ b rest r. r }
 
-pub step_read : {text rest behind more : List ℕ} {n : ℕ} (all : List ℕ) → On text rest all → rest ≡ 46 ∷ behind → ReadsTo is_digit (Number Word32) behind n more → On text more (all ++ n ∷ [])
+pub step_read : {text rest behind more : List ℕ} {n : ℕ} (all : List ℕ) → On text rest all → rest ≡ 46 ∷ behind → Reads (Number Word32) behind n more → On text more (all ++ n ∷ [])
 step_read {rest = rest} {behind = behind} {n = n} all w e r =
     one_more (λ ns. ns) all n (run_more is_digit (λ (u : Unit {0}). Front (codes ".") (Number Word32)) (λ u a. u) (λ b. b == 46) (codes " ") runs-path w (there 46 rest behind e refl)
     ((lift-behind is_digit 46 (Number Word32) rest behind e).reads n _ r))
 
-pub step_fails : {text rest behind : List ℕ} {left : ℕ} (all : List ℕ) → On text rest all → rest ≡ 46 ∷ behind → FailsTo is_digit (Number Word32) behind left → FailsTo no_byte SpellsPath text left
+pub step_fails : {text rest behind : List ℕ} {left : ℕ} (all : List ℕ) → On text rest all → rest ≡ 46 ∷ behind → Fails (Number Word32) behind left → FailsTo no_byte SpellsPath text left
 step_fails {rest = rest} {behind = behind} {left = left} all w e f =
     run_fails is_digit (λ (u : Unit {0}). Front (codes ".") (Number Word32)) (λ u a. u) (λ b. b == 46) (codes " ") runs-path w (there 46 rest behind e refl) ((lift-behind is_digit 46 (Number Word32) rest behind e).fails left f)
 

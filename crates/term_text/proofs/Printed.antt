@@ -21,8 +21,8 @@ use Rattle.text_pieces.specs.Languages.{Cat}
 use Rattle.text_pieces.specs.Numbers.{Number, Word32, Signed, Signed128}
 use Rattle.text_pieces.specs.Printing.{Adds}
 use Rattle.text_pieces.proofs.Adding.{adds-cat, adds-image, whole_in}
-use Rattle.text_ends.specs.Fronts.{Front, Word}
-use Rattle.text_ends.proofs.Putting.{adds-word32, adds-word, adds-as, adds-front, adds-kind}
+use Rattle.text_pieces.specs.Fronts.{Front, Word}
+use Rattle.text_pieces.proofs.Putting.{adds-word32, adds-word, adds-as, adds-front, adds-kind}
 use Rattle.term_text.specs.declared.kinds.VariableKind.TheVariants.{Abstraction, Individual, Int, Declared}
 use Rattle.term_text.specs.declared.kinds.TermKind.{TermKind}
 use Rattle.term_text.specs.declared.kinds.TermKind.TheVariants.{Variable as VariableTerm, Number as NumberTerm, Truth, Bracket, Symbol}

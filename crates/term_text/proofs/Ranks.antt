@@ -6,11 +6,11 @@ use Rattle.std.proofs.lemmas.Bool.{lt-ltb, ltb-true}
 use Rattle.std.proofs.lemmas.Bool.Decides.{nat_tests}
 use Rattle.term_base.specs.declared.variables.Variable.{Variable}
 use Rattle.term_base.specs.SubstTest.{follows}
-use Rattle.text_ends.specs.Fronts.{Front}
+use Rattle.text_pieces.specs.Fronts.{Front}
 use Rattle.text_pieces.specs.Numbers.{Number, Word32}
 use Rattle.text_pieces.specs.Decimals.{is_digit}
-use Rattle.text_ends.proofs.Ends.{same_fails, same_reads}
-use Rattle.text_ends.proofs.Lifts.{Lift}
+use Rattle.text_pieces.proofs.Ends.{same_fails, same_reads}
+use Rattle.text_pieces.proofs.Lifts.{Lift}
 use Rattle.term_text.specs.declared.kinds.VariableKind.{VariableKind}
 use Rattle.term_text.specs.declared.kinds.VariableKind.TheVariants.{Abstraction, Individual, Int, Declared}
 use Rattle.term_text.specs.Variables.{abstraction, individual, integer, declared, VariableParts, SpellsVariable, VariableFrom, rank}

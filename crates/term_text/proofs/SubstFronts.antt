@@ -8,14 +8,16 @@ use Rattle.term_base.specs.SameTerm.{same_term}
 use Rattle.term_base.specs.Trees.{tree, node, truth, none, same_tree}
 use Rattle.term_base.specs.TreeOf.{tree-True, tree-Var}
 use Rattle.text_pieces.specs.Decimals.{is_digit}
-use Rattle.text_ends.specs.Ending.{Free, OneFrontTo, is_digit_or_bracket, no_byte}
-use Rattle.text_ends.specs.Fronts.{Front}
-use Rattle.text_ends.specs.Kinds.{OneKind, kind_at}
-use Rattle.text_ends.proofs.Ends.{one_front-cat, one_front-image}
-use Rattle.text_ends.proofs.Lifts.{Lift, Sure, Next}
-use Rattle.text_ends.proofs.Words.{one_front-front, next-front, sure-front, sure-word}
-use Rattle.text_ends.proofs.Kinded.{Told, kinded, sure-kinds}
-use Rattle.text_ends.proofs.Running.{Runs, next-run}
+use Rattle.text_pieces.specs.Languages.{Free}
+use Rattle.text_pieces.specs.Unambiguous.{OneFrontTo, OneFront}
+use Rattle.text_pieces.specs.Ending.{is_digit_or_bracket, no_byte}
+use Rattle.text_pieces.specs.Fronts.{Front}
+use Rattle.text_pieces.specs.Kinds.{OneKind, kind_at}
+use Rattle.text_pieces.proofs.Ends.{one_front-cat, one_front-image}
+use Rattle.text_pieces.proofs.Lifts.{Lift, Sure, Next}
+use Rattle.text_pieces.proofs.WordReading.{one_front-front, next-front, sure-front, sure-word}
+use Rattle.text_pieces.proofs.Kinded.{Told, kinded, sure-kinds}
+use Rattle.text_pieces.proofs.Running.{Runs, next-run}
 use Rattle.term_text.specs.declared.kinds.VariableKind.{VariableKind}
 use Rattle.term_text.specs.declared.kinds.VariableKind.TheVariants.{Abstraction, Individual, Int, Declared}
 use Rattle.term_text.specs.declared.kinds.TermKind.TheVariants.{Truth}
@@ -32,7 +34,7 @@ abbrev Pair : Type 0
 Pair = Variable × Term
 
 -- ---- pairs
-pub one_front-after : (last : Option Variable) → OneFrontTo is_digit (VariableAfter last)
+pub one_front-after : (last : Option Variable) → OneFront (VariableAfter last)
 one_front-after last a b t u x y s r h d e = sure-variable.one a b t u x y s.spelled r.spelled h d e
 
 pub one_front-but : (v : Variable) → OneFrontTo m (TermBut v)

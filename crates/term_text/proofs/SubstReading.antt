@@ -10,17 +10,17 @@ use Rattle.term_base.specs.SameTerm.{same_term}
 use Rattle.term_base.specs.SubstTest.{follows, ascends_after}
 use Rattle.term_base.specs.Substitution.{IsSubstitution}
 use Rattle.term_base.proofs.Ascending.{test_is_right, right_passes_test}
-use Rattle.text_pieces.specs.Decimals.{is_digit}
-use Rattle.text_pieces.specs.Languages.{HasSpelling, Cat}
+use Rattle.text_pieces.specs.Languages.{HasSpelling, Cat, ReadsTo, FailsTo, Fails, Reads}
 use Rattle.text_pieces.specs.Printing.{Adds}
 use Rattle.text_pieces.specs.declared.bad_texts.Unread.{Unread}
 use Rattle.text_pieces.proofs.Adding.{adds-cat}
-use Rattle.text_ends.specs.Ending.{ReadsTo, FailsTo, UnreadTo, is_digit_or_bracket, no_byte}
-use Rattle.text_ends.specs.Fronts.{Front, NoFront}
-use Rattle.text_ends.proofs.Ends.{free_none}
-use Rattle.text_ends.proofs.Lifts.{Lift, lift-self, lift-image, lift-behind, unread_on, read_next, next_fails, next_unread}
-use Rattle.text_ends.proofs.Running.{run_more, run_fails, run_end, run_no_end, empty_end, empty_no_end, one_more, there, not_there}
-use Rattle.text_ends.proofs.Putting.{adds-front}
+use Rattle.text_pieces.specs.Failing.{UnreadTo}
+use Rattle.text_pieces.specs.Ending.{is_digit_or_bracket, no_byte}
+use Rattle.text_pieces.specs.Fronts.{Front, NoFront}
+use Rattle.text_pieces.proofs.Ends.{free_none}
+use Rattle.text_pieces.proofs.Lifts.{Lift, lift-self, lift-image, lift-behind, unread_on, read_next, next_fails, next_unread}
+use Rattle.text_pieces.proofs.Running.{run_more, run_fails, run_end, run_no_end, empty_end, empty_no_end, one_more, there, not_there}
+use Rattle.text_pieces.proofs.Putting.{adds-front}
 use Rattle.term_text.specs.Variables.{SpellsVariable, VariableFrom, rank}
 use Rattle.term_text.specs.Terms.{SpellsTerm}
 use Rattle.term_text.specs.Substitutions.{TermBut, PairAfter, MorePairs, PairsParts, SpellsSubst, SpellsPair, SpellsMore, low_after, IsNumbered}
@@ -34,12 +34,12 @@ abbrev Pair : Type 0
 Pair = Variable × Term
 
 -- ---- a pair
-pub after_read : {text rest : List ℕ} {v : Variable} (last : Option Variable) → IsNumbered last → ReadsTo is_digit (VariableFrom (low_after last)) text v rest → Lift m (PairAfter last) text (Front (codes ">") (TermBut v)) rest (λ t. (v, t))
+pub after_read : {text rest : List ℕ} {v : Variable} (last : Option Variable) → IsNumbered last → Reads (VariableFrom (low_after last)) text v rest → Lift m (PairAfter last) text (Front (codes ">") (TermBut v)) rest (λ t. (v, t))
 after_read {text} {rest} {v} last h r =
     let a = (variable_after last h text).reads v rest r in
     read_next (lift-self m (PairAfter last) text) (record { one = one_front-after last; some = record { value = v; text = a.text; spelled = a.spelled } }) next-but a
 
-pub after_fails : {text : List ℕ} {left : ℕ} (last : Option Variable) → IsNumbered last → FailsTo is_digit (VariableFrom (low_after last)) text left → FailsTo m (PairAfter last) text left
+pub after_fails : {text : List ℕ} {left : ℕ} (last : Option Variable) → IsNumbered last → Fails (VariableFrom (low_after last)) text left → FailsTo m (PairAfter last) text left
 after_fails {text} {left} last h f = next_fails (lift-self m (PairAfter last) text) next-but ((variable_after last h text).fails left f)
 
 pub pair_numbered : {text rest : List ℕ} {p : Pair} {last : Option Variable} → ReadsTo m (PairAfter last) text p rest → HasSpelling SpellsVariable p.0

@@ -4,17 +4,18 @@ use Rattle.std.specs.Prelude.{codes, ◌==◌}
 use Rattle.term_base.specs.declared.terms.Term.{Term}
 use Rattle.term_base.specs.declared.terms.Term.TheVariants as term
 use Rattle.text_pieces.specs.Decimals.{is_digit}
-use Rattle.text_pieces.specs.Languages.{Cat}
+use Rattle.text_pieces.specs.Languages.{Cat, Free}
 use Rattle.text_pieces.specs.Numbers.{Number, Word32, Signed, Signed128}
 use Rattle.text_pieces.proofs.Negatives.{one_front-signed}
-use Rattle.text_ends.specs.Ending.{Free, OneFrontTo, is_digit_or_bracket, no_byte}
-use Rattle.text_ends.specs.Fronts.{Front, Word}
-use Rattle.text_ends.proofs.Ends.{Joins, within_digit, one_to, one_within, one_front-cat, one_front-image}
-use Rattle.text_ends.proofs.Lifts.{Sure, Next, sure-cat, sure-image}
-use Rattle.text_ends.proofs.Words.{one_front-front, sure-word, joins-front, next-word, sure-front, next-front}
-use Rattle.text_ends.proofs.Kinded.{one_front-kinds}
-use Rattle.text_ends.proofs.Running.{Runs, next-run}
-use Rattle.text_ends.proofs.Limits.{above, above_swap, raised}
+use Rattle.text_pieces.specs.Unambiguous.{OneFrontTo}
+use Rattle.text_pieces.specs.Ending.{is_digit_or_bracket, no_byte}
+use Rattle.text_pieces.specs.Fronts.{Front, Word}
+use Rattle.text_pieces.proofs.Ends.{Joins, within_digit, one_within, one_front-cat, one_front-image}
+use Rattle.text_pieces.proofs.Lifts.{Sure, Next, sure-cat, sure-image}
+use Rattle.text_pieces.proofs.WordReading.{one_front-front, sure-word, joins-front, next-word, sure-front, next-front}
+use Rattle.text_pieces.proofs.Kinded.{one_front-kinds}
+use Rattle.text_pieces.proofs.Running.{Runs, next-run}
+use Rattle.text_pieces.proofs.Limits.{above, above_swap, raised}
 use Rattle.term_text.specs.declared.kinds.TermKind.{TermKind}
 use Rattle.term_text.specs.declared.kinds.TermKind.TheVariants.{Variable as VariableTerm, Number as NumberTerm, Truth, Bracket, Symbol}
 use Rattle.term_text.specs.declared.kinds.Operation.TheVariants.{Plus, Times}
@@ -95,7 +96,7 @@ module _ (L : Term → List ℕ → Type 0) (one : OneFrontTo m L) where
   -- ---- terms of one level more
   one_front-parts : (k : TermKind) → OneFrontTo m (TermParts L k)
   one_front-parts VariableTerm = one_front-image m _ _ (one_within is_digit m SpellsVariable within_digit sure-variable.one)
-  one_front-parts NumberTerm = one_front-image m _ _ (one_within is_digit m (Signed (Signed128 0)) within_digit (one_to (Signed (Signed128 0)) (one_front-signed 0)))
+  one_front-parts NumberTerm = one_front-image m _ _ (one_within is_digit m (Signed (Signed128 0)) within_digit (one_front-signed 0))
   one_front-parts Truth = one_front-image m _ _ (sure-word m (codes "true")).one
   one_front-parts Bracket = one_front-image m _ _ (one_front-front m (codes "(") _ (one_front-cat m m L (BehindFirst L) one (one_front-behind_first m) (λ a. joins-front m m 32 [] _ refl)))
   one_front-parts Symbol =

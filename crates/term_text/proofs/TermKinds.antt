@@ -5,7 +5,7 @@ use Rattle.term_base.specs.declared.terms.Term.{Term}
 use Rattle.text_pieces.specs.Decimals.{is_digit, signed_decimal}
 use Rattle.text_pieces.proofs.Digits.{digit_below}
 use Rattle.text_pieces.proofs.Reaching.{decimal_head}
-use Rattle.text_ends.proofs.Kinded.{Told}
+use Rattle.text_pieces.proofs.Kinded.{Told}
 use Rattle.term_text.specs.declared.kinds.TermKind.{TermKind}
 use Rattle.term_text.specs.declared.kinds.TermKind.TheVariants.{Variable as VariableTerm, Number as NumberTerm, Truth, Bracket, Symbol}
 use Rattle.term_text.specs.declared.kinds.VariableKind.{VariableKind}

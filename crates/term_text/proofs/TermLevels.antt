@@ -4,10 +4,10 @@ use Rattle.std.specs.Prelude.{codes}
 use Rattle.term_base.specs.declared.terms.Term.{Term}
 use Rattle.text_pieces.specs.Languages.{Cat}
 use Rattle.text_pieces.specs.Numbers.{Number, Word32}
-use Rattle.text_ends.specs.Fronts.{Front, Word}
-use Rattle.text_ends.proofs.Ends.{same_fails, same_reads}
-use Rattle.text_ends.proofs.Lifts.{Lift}
-use Rattle.text_ends.proofs.Limits.{Limit, limit-same, limit-cat, limit-front, limit-image, limit-kinds, limit-run, two, limit-two}
+use Rattle.text_pieces.specs.Fronts.{Front, Word}
+use Rattle.text_pieces.proofs.Ends.{same_fails, same_reads}
+use Rattle.text_pieces.proofs.Lifts.{Lift}
+use Rattle.text_pieces.proofs.Limits.{Limit, limit-same, limit-cat, limit-front, limit-image, limit-kinds, limit-run, two, limit-two}
 use Rattle.term_text.specs.declared.kinds.TermKind.{TermKind}
 use Rattle.term_text.specs.declared.kinds.TermKind.TheVariants.{Variable as VariableTerm, Number as NumberTerm, Truth, Bracket, Symbol}
 use Rattle.term_text.specs.Terms.{Sign, number_of, Second, BehindFirst, MoreArguments, ListedArguments, Arguments, TermParts, Layer, TermWithin, SpellsTerm}

@@ -4,15 +4,16 @@ use Rattle.std.specs.Prelude.{codes, ◌==◌, ◌||◌}
 use Rattle.std.proofs.lemmas.Bool.{eqb-true}
 use Rattle.term_base.specs.declared.terms.Term.{Term}
 use Rattle.text_pieces.specs.Decimals.{is_digit}
-use Rattle.text_pieces.specs.Languages.{NoDigit, GoesOn, StopsAt}
+use Rattle.text_pieces.specs.Languages.{NoDigit, GoesOn, StopsAt, Free, ReadsTo, FailsTo}
 use Rattle.text_pieces.specs.declared.bad_texts.Unread.{Unread}
-use Rattle.text_ends.specs.Ending.{Free, ReadsTo, FailsTo, UnreadTo, is_digit_or_bracket, no_byte}
-use Rattle.text_ends.specs.Fronts.{Front, NoFront}
-use Rattle.text_ends.specs.Kinds.{kind_at}
-use Rattle.text_ends.proofs.Ends.{free_none}
-use Rattle.text_ends.proofs.Lifts.{Lift, lift-then, lift-behind, unread_on}
-use Rattle.text_ends.proofs.Kinded.{kinded}
-use Rattle.text_ends.proofs.Running.{run_more, run_fails, run_end, run_no_end, one_more, there, not_there}
+use Rattle.text_pieces.specs.Failing.{UnreadTo}
+use Rattle.text_pieces.specs.Ending.{is_digit_or_bracket, no_byte}
+use Rattle.text_pieces.specs.Fronts.{Front, NoFront}
+use Rattle.text_pieces.specs.Kinds.{kind_at}
+use Rattle.text_pieces.proofs.Ends.{free_none}
+use Rattle.text_pieces.proofs.Lifts.{Lift, lift-then, lift-behind, unread_on}
+use Rattle.text_pieces.proofs.Kinded.{kinded}
+use Rattle.text_pieces.proofs.Running.{run_more, run_fails, run_end, run_no_end, one_more, there, not_there}
 use Rattle.term_text.specs.declared.kinds.TermKind.{TermKind}
 use Rattle.term_text.specs.declared.kinds.TermKind.TheVariants.{Symbol}
 use Rattle.term_text.specs.Terms.{SpellsTerm, TermParts, Arguments, ListedArguments, MoreArguments, term_kind_of}

@@ -7,11 +7,10 @@ use Rattle.term_base.specs.TermFolds.{fold-Var, fold-Num, fold-True, fold-Sum, f
 use Rattle.term_base.specs.TermInduction.{term_induction}
 use Rattle.text_pieces.specs.Decimals.{decimal, signed_decimal}
 use Rattle.text_pieces.specs.Numbers.{Number, Word32, Signed, Signed128}
-use Rattle.text_pieces.proofs.OneText.{Texts, text-cat, text-number, text-signed}
-pub use Rattle.clause_text.specs.Text.{term_text}
-use Rattle.clause_text.specs.Text.{variable_text, term_step, arguments_text, listed}
-use Rattle.text_ends.specs.Fronts.{Front, Word}
-use Rattle.text_ends.proofs.OneTexts.{text-front, text-image, text-kinds, run_text, text-run}
+use Rattle.text_pieces.proofs.OneText.{Texts, text-cat, text-number, text-signed, text-front, text-image, text-kinds, run_text, text-run}
+pub use Rattle.term_text.specs.Texts.{term_text}
+use Rattle.term_text.specs.Texts.{variable_text, term_step, arguments_text, listed}
+use Rattle.text_pieces.specs.Fronts.{Front, Word}
 use Rattle.term_text.specs.declared.kinds.VariableKind.{VariableKind}
 use Rattle.term_text.specs.declared.kinds.VariableKind.TheVariants.{Abstraction, Individual, Int, Declared}
 use Rattle.term_text.specs.declared.kinds.TermKind.{TermKind}

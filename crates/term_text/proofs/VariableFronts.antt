@@ -5,17 +5,16 @@ use Rattle.term_base.specs.declared.variables.Variable.{Variable}
 use Rattle.text_pieces.specs.Decimals.{is_digit}
 use Rattle.text_pieces.specs.Numbers.{Number, Word32}
 use Rattle.text_pieces.proofs.Reaching.{one_front-number, has_one-number}
-use Rattle.text_ends.proofs.Ends.{one_to}
-use Rattle.text_ends.proofs.Lifts.{Sure, sure-cat, sure-image}
-use Rattle.text_ends.proofs.Words.{sure-front, next-front}
-use Rattle.text_ends.proofs.Kinded.{Told, sure-kinds}
+use Rattle.text_pieces.proofs.Lifts.{Sure, sure-cat, sure-image}
+use Rattle.text_pieces.proofs.WordReading.{sure-front, next-front}
+use Rattle.text_pieces.proofs.Kinded.{Told, sure-kinds}
 use Rattle.term_text.specs.declared.kinds.VariableKind.{VariableKind}
 use Rattle.term_text.specs.declared.kinds.VariableKind.TheVariants.{Abstraction, Individual, Int, Declared}
 use Rattle.term_text.specs.Variables.{VariableParts, SpellsVariable, variable_kind_of}
 
 -- ---- numbers
 pub sure-number : (In : ℕ → Type 0) (n : ℕ) → In n → Sure is_digit (Number In)
-sure-number In n h = record { one = one_to (Number In) (one_front-number In); some = has_one-number In n h }
+sure-number In n h = record { one = one_front-number In; some = has_one-number In n h }
 
 pub sure-word32 : Sure is_digit (Number Word32)
 sure-word32 = sure-number Word32 0 (record { from_low = omega arith; to_high = omega arith })

@@ -8,17 +8,16 @@ use Rattle.term_base.specs.declared.variables.Kind.TheVariants as kind
 use Rattle.term_base.specs.declared.variables.Variable.{Variable}
 use Rattle.term_base.specs.SameLemmas.{variables_equal}
 use Rattle.text_pieces.specs.Decimals.{is_digit, decimal}
-use Rattle.text_pieces.specs.Languages.{Cat, Image, StopsAt}
+use Rattle.text_pieces.specs.Languages.{Cat, Image, StopsAt, Fails}
 use Rattle.text_pieces.specs.Numbers.{Number, Within, Word32}
 use Rattle.text_pieces.specs.Unambiguous.{HasOne}
 use Rattle.text_pieces.proofs.Joining.{head_same}
-use Rattle.text_ends.specs.Ending.{FailsTo}
-use Rattle.text_ends.specs.Fronts.{Front}
-use Rattle.text_ends.specs.Kinds.{kind_at}
-use Rattle.text_ends.proofs.Ends.{same_fails, same_reads}
-use Rattle.text_ends.proofs.Lifts.{Lift, lift-then, Sure, Next, sure-cat}
-use Rattle.text_ends.proofs.Words.{next-front}
-use Rattle.text_ends.proofs.Kinded.{Told, kinded}
+use Rattle.text_pieces.specs.Fronts.{Front}
+use Rattle.text_pieces.specs.Kinds.{kind_at}
+use Rattle.text_pieces.proofs.Ends.{same_fails, same_reads}
+use Rattle.text_pieces.proofs.Lifts.{Lift, lift-then, Sure, Next, sure-cat}
+use Rattle.text_pieces.proofs.WordReading.{next-front}
+use Rattle.text_pieces.proofs.Kinded.{Told, kinded}
 use Rattle.term_text.specs.declared.kinds.VariableKind.{VariableKind}
 use Rattle.term_text.specs.declared.kinds.VariableKind.TheVariants.{Abstraction, Individual, Int, Declared}
 use Rattle.term_text.specs.Variables.{abstraction, individual, integer, declared, VariableParts, SpellsVariable, variable_kind_of, rank, FromParts, VariableFrom, SortedFrom, id_from}
@@ -64,7 +63,7 @@ last_one low h = record {
 
 -- where no variable of the kind is left
 pub none_from : (low : ℕ) (text : List ℕ) (k : VariableKind) → low < (3 + 2 ^ 32) * 2 ^ 32 → kind_at variable_kind_of Declared text ≡ k → ((v : Variable) (t : List ℕ) → FromParts low k v t → ⊥)
-    → FailsTo is_digit (VariableFrom low) text (length text)
+    → Fails (VariableFrom low) text (length text)
 none_from low text k h e empty = record {
   front = [];
   rest = text;
@@ -129,7 +128,7 @@ module _ (k : VariableKind) (make : ℕ → Variable) (word : List ℕ) (low beg
   })
 
   -- where low is past the letter
-  pub past_letter : (text : List ℕ) → low < (3 + 2 ^ 32) * 2 ^ 32 → begin + 2 ^ 32 ≤ low → kind_at variable_kind_of Declared text ≡ k → FailsTo is_digit (VariableFrom low) text (length text)
+  pub past_letter : (text : List ℕ) → low < (3 + 2 ^ 32) * 2 ^ 32 → begin + 2 ^ 32 ≤ low → kind_at variable_kind_of Declared text ≡ k → Fails (VariableFrom low) text (length text)
   past_letter text h past e = none_from low text k h e (λ v t s.
       let i = forth v t s.spelled in
       let id = i.from in
@@ -144,19 +143,19 @@ module _ (low : ℕ) (text : List ℕ) where
       let whole : low - 0 ≡ low = omega arith in
       subst (λ z. Lift is_digit (VariableFrom low) text (Front (codes "A") (Number (Within z top))) text abstraction) whole (lettered_from Abstraction abstraction (codes "A") low 0 (λ id. omega arith) (λ v t s. s) (λ v t s. s) text e)
 
-  pub no_abstraction : low < (3 + 2 ^ 32) * 2 ^ 32 → 2 ^ 32 ≤ low → kind_at variable_kind_of Declared text ≡ Abstraction → FailsTo is_digit (VariableFrom low) text (length text)
+  pub no_abstraction : low < (3 + 2 ^ 32) * 2 ^ 32 → 2 ^ 32 ≤ low → kind_at variable_kind_of Declared text ≡ Abstraction → Fails (VariableFrom low) text (length text)
   no_abstraction h p = past_letter Abstraction abstraction (codes "A") low 0 (λ id. omega arith) (λ v t s. s) (λ v t s. s) text h (omega (arith, p))
 
   pub individual_in : kind_at variable_kind_of Declared text ≡ Individual → Lift is_digit (VariableFrom low) text (Front (codes "I") (Number (Within (low - 2 ^ 32) top))) text individual
   individual_in = lettered_from Individual individual (codes "I") low (2 ^ 32) (λ id. refl) (λ v t s. s) (λ v t s. s) text
 
-  pub no_individual : low < (3 + 2 ^ 32) * 2 ^ 32 → 2 * 2 ^ 32 ≤ low → kind_at variable_kind_of Declared text ≡ Individual → FailsTo is_digit (VariableFrom low) text (length text)
+  pub no_individual : low < (3 + 2 ^ 32) * 2 ^ 32 → 2 * 2 ^ 32 ≤ low → kind_at variable_kind_of Declared text ≡ Individual → Fails (VariableFrom low) text (length text)
   no_individual h p = past_letter Individual individual (codes "I") low (2 ^ 32) (λ id. refl) (λ v t s. s) (λ v t s. s) text h (omega (arith, p))
 
   pub integer_in : kind_at variable_kind_of Declared text ≡ Int → Lift is_digit (VariableFrom low) text (Front (codes "N") (Number (Within (low - 2 * 2 ^ 32) top))) text integer
   integer_in = lettered_from Int integer (codes "N") low (2 * 2 ^ 32) (λ id. refl) (λ v t s. s) (λ v t s. s) text
 
-  pub no_integer : low < (3 + 2 ^ 32) * 2 ^ 32 → 3 * 2 ^ 32 ≤ low → kind_at variable_kind_of Declared text ≡ Int → FailsTo is_digit (VariableFrom low) text (length text)
+  pub no_integer : low < (3 + 2 ^ 32) * 2 ^ 32 → 3 * 2 ^ 32 ≤ low → kind_at variable_kind_of Declared text ≡ Int → Fails (VariableFrom low) text (length text)
   no_integer h p = past_letter Int integer (codes "N") low (2 * 2 ^ 32) (λ id. refl) (λ v t s. s) (λ v t s. s) text h (omega (arith, p))
 
 -- ---- variables of declared sorts

@@ -3,9 +3,8 @@ use Rattle.std.proofs.Common.{◌≡◌, ℕ, zero, suc, ℤ, List, [], ◌∷�
 use Rattle.std.specs.Prelude.{codes, ◌==◌, if◌then◌else◌}
 use Rattle.text_pieces.specs.Decimals.{is_digit}
 use Rattle.text_pieces.specs.Languages.{Reads, Fails, Exactly, OneOf}
-use Rattle.text_ends.specs.Ending.{ReadsTo, FailsTo}
-use Rattle.text_ends.proofs.Ends.{was_read, was_bad, same_fails, same_reads, one_to}
-use Rattle.text_ends.proofs.Lifts.{Sure}
+use Rattle.text_pieces.proofs.Ends.{same_fails, same_reads}
+use Rattle.text_pieces.proofs.Lifts.{Sure}
 use Rattle.text_pieces.proofs.WordFronts.{one_front-words}
 use Rattle.term_text.specs.declared.kinds.Operation.{Operation}
 use Rattle.term_text.specs.declared.kinds.Operation.TheVariants.{Plus, Times}
@@ -36,21 +35,21 @@ sign_back : (k : ℤ) (operation : Operation) (t : List ℕ) → Sign (Some k) o
 sign_back k Plus t h = (0, ap Some (sym h))
 sign_back k (Times j) t h = (1, ap Some (sym h.1))
 
-pub sign_fails : {bytes : List ℕ} {left : ℕ} (k : ℤ) → Fails (OneOf signs) bytes left → FailsTo is_digit (Sign (Some k)) bytes left
-sign_fails {bytes} {left} k f = same_fails is_digit (OneOf signs) (Sign (Some k)) (λ place t h. (operation_at place k, sign_forth k place t h)) (sign_back k) bytes left (was_bad f)
+pub sign_fails : {bytes : List ℕ} {left : ℕ} (k : ℤ) → Fails (OneOf signs) bytes left → Fails (Sign (Some k)) bytes left
+sign_fails {bytes} {left} k f = same_fails is_digit (OneOf signs) (Sign (Some k)) (λ place t h. (operation_at place k, sign_forth k place t h)) (sign_back k) bytes left f
 
-pub sign_reads : {bytes rest : List ℕ} {place : ℕ} (k : ℤ) → Reads (OneOf signs) bytes place rest → ReadsTo is_digit (Sign (Some k)) bytes (operation_at place k) rest
-sign_reads {bytes} {rest} {place} k r = same_reads is_digit (OneOf signs) (Sign (Some k)) place (operation_at place k) (sign_forth k place) bytes rest (was_read r)
+pub sign_reads : {bytes rest : List ℕ} {place : ℕ} (k : ℤ) → Reads (OneOf signs) bytes place rest → Reads (Sign (Some k)) bytes (operation_at place k) rest
+sign_reads {bytes} {rest} {place} k r = same_reads is_digit (OneOf signs) (Sign (Some k)) place (operation_at place k) (sign_forth k place) bytes rest r
 
 plus_back : (operation : Operation) (t : List ℕ) → Sign None operation t → (u : Unit {0}) × Exactly (codes "+") u t
 plus_back Plus t h = (tt, h)
 plus_back (Times k) t h = absurd h
 
-pub plus_fails : {bytes : List ℕ} {left : ℕ} → Fails (Exactly (codes "+")) bytes left → FailsTo is_digit (Sign None) bytes left
-plus_fails {bytes} {left} f = same_fails is_digit (Exactly (codes "+")) (Sign None) (λ u t h. (Plus, h)) plus_back bytes left (was_bad f)
+pub plus_fails : {bytes : List ℕ} {left : ℕ} → Fails (Exactly (codes "+")) bytes left → Fails (Sign None) bytes left
+plus_fails {bytes} {left} f = same_fails is_digit (Exactly (codes "+")) (Sign None) (λ u t h. (Plus, h)) plus_back bytes left f
 
-pub plus_reads : {bytes rest : List ℕ} → Reads (Exactly (codes "+")) bytes tt rest → ReadsTo is_digit (Sign None) bytes Plus rest
-plus_reads {bytes} {rest} r = same_reads is_digit (Exactly (codes "+")) (Sign None) tt Plus (λ t h. h) bytes rest (was_read r)
+pub plus_reads : {bytes rest : List ℕ} → Reads (Exactly (codes "+")) bytes tt rest → Reads (Sign None) bytes Plus rest
+plus_reads {bytes} {rest} r = same_reads is_digit (Exactly (codes "+")) (Sign None) tt Plus (λ t h. h) bytes rest r
 
 -- ---- relations
 abbrev relations : List (List ℕ)
@@ -67,11 +66,11 @@ relation_back Equal t h = (0, ap Some (sym h))
 relation_back Differ t h = (1, ap Some (sym h))
 relation_back AtMost t h = (2, ap Some (sym h))
 
-pub relation_fails : {bytes : List ℕ} {left : ℕ} → Fails (OneOf relations) bytes left → FailsTo is_digit RelationWord bytes left
-relation_fails {bytes} {left} f = same_fails is_digit (OneOf relations) RelationWord (λ place t h. (relation_at place, relation_forth place t h)) relation_back bytes left (was_bad f)
+pub relation_fails : {bytes : List ℕ} {left : ℕ} → Fails (OneOf relations) bytes left → Fails RelationWord bytes left
+relation_fails {bytes} {left} f = same_fails is_digit (OneOf relations) RelationWord (λ place t h. (relation_at place, relation_forth place t h)) relation_back bytes left f
 
-pub relation_reads : {bytes rest : List ℕ} {place : ℕ} → Reads (OneOf relations) bytes place rest → ReadsTo is_digit RelationWord bytes (relation_at place) rest
-relation_reads {bytes} {rest} {place} r = same_reads is_digit (OneOf relations) RelationWord place (relation_at place) (relation_forth place) bytes rest (was_read r)
+pub relation_reads : {bytes rest : List ℕ} {place : ℕ} → Reads (OneOf relations) bytes place rest → Reads RelationWord bytes (relation_at place) rest
+relation_reads {bytes} {rest} {place} r = same_reads is_digit (OneOf relations) RelationWord place (relation_at place) (relation_forth place) bytes rest r
 
 abbrev guess_relation : List ℕ → Relation
 guess_relation (a ∷ more) = if a == 61 then Equal else (if a == 33 then Differ else AtMost)
@@ -83,7 +82,7 @@ known_relation Differ x = refl
 known_relation AtMost x = refl
 
 pub sure-relation : Sure is_digit RelationWord
-sure-relation = record { one = one_to RelationWord (one_front-words relation_word guess_relation known_relation); some = record { value = Equal; text = codes "="; spelled = refl } }
+sure-relation = record { one = one_front-words relation_word guess_relation known_relation; some = record { value = Equal; text = codes "="; spelled = refl } }
 
 -- ---- sides
 abbrev sides : List (List ℕ)
@@ -98,11 +97,11 @@ side_back : (s : Side) (t : List ℕ) → SpellsSide s t → (place : ℕ) × On
 side_back Left t h = (0, ap Some (sym h))
 side_back Right t h = (1, ap Some (sym h))
 
-pub side_fails : {bytes : List ℕ} {left : ℕ} → Fails (OneOf sides) bytes left → FailsTo is_digit SpellsSide bytes left
-side_fails {bytes} {left} f = same_fails is_digit (OneOf sides) SpellsSide (λ place t h. (side_at place, side_forth place t h)) side_back bytes left (was_bad f)
+pub side_fails : {bytes : List ℕ} {left : ℕ} → Fails (OneOf sides) bytes left → Fails SpellsSide bytes left
+side_fails {bytes} {left} f = same_fails is_digit (OneOf sides) SpellsSide (λ place t h. (side_at place, side_forth place t h)) side_back bytes left f
 
-pub side_reads : {bytes rest : List ℕ} {place : ℕ} → Reads (OneOf sides) bytes place rest → ReadsTo is_digit SpellsSide bytes (side_at place) rest
-side_reads {bytes} {rest} {place} r = same_reads is_digit (OneOf sides) SpellsSide place (side_at place) (side_forth place) bytes rest (was_read r)
+pub side_reads : {bytes rest : List ℕ} {place : ℕ} → Reads (OneOf sides) bytes place rest → Reads SpellsSide bytes (side_at place) rest
+side_reads {bytes} {rest} {place} r = same_reads is_digit (OneOf sides) SpellsSide place (side_at place) (side_forth place) bytes rest r
 
 abbrev guess_side : List ℕ → Side
 guess_side (a ∷ more) = if a == 76 then Left else Right
@@ -113,4 +112,4 @@ known_side Left x = refl
 known_side Right x = refl
 
 pub sure-side : Sure is_digit SpellsSide
-sure-side = record { one = one_to SpellsSide (one_front-words side_word guess_side known_side); some = record { value = Left; text = codes "L"; spelled = refl } }
+sure-side = record { one = one_front-words side_word guess_side known_side; some = record { value = Left; text = codes "L"; spelled = refl } }

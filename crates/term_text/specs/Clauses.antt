@@ -5,9 +5,9 @@ use Rattle.term_base.specs.declared.clauses.Literal.{Literal}
 use Rattle.term_base.specs.declared.clauses.Literal.TheVariants as literal
 use Rattle.term_base.specs.declared.clauses.Clause.{Clause}
 use Rattle.text_pieces.specs.Languages.{Cat, Image}
-use Rattle.text_ends.specs.Fronts.{Front, Word}
-use Rattle.text_ends.specs.Kinds.{OneKind}
-use Rattle.text_ends.specs.Runs.{Run}
+use Rattle.text_pieces.specs.Fronts.{Front, Word}
+use Rattle.text_pieces.specs.Kinds.{OneKind}
+use Rattle.text_pieces.specs.Runs.{Run}
 use Rattle.term_text.specs.declared.kinds.Relation.{Relation}
 use Rattle.term_text.specs.declared.kinds.Relation.TheVariants.{Equal, Differ, AtMost}
 use Rattle.term_text.specs.Terms.{SpellsTerm}

@@ -5,8 +5,8 @@ use Rattle.term_base.specs.declared.places.Side.{Side}
 use Rattle.term_base.specs.declared.places.Side.TheVariants.{Left, Right}
 use Rattle.text_pieces.specs.Languages.{Cat, Image}
 use Rattle.text_pieces.specs.Numbers.{Number, Word32}
-use Rattle.text_ends.specs.Fronts.{Front}
-use Rattle.text_ends.specs.Runs.{Run}
+use Rattle.text_pieces.specs.Fronts.{Front}
+use Rattle.text_pieces.specs.Runs.{Run}
 
 -- the letter of a side
 abbrev pub side_word : Side → List ℕ

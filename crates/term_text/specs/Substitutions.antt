@@ -5,11 +5,11 @@ use Rattle.term_base.specs.declared.terms.Term.{Term}
 use Rattle.term_base.specs.declared.terms.Term.TheVariants as term
 use Rattle.term_base.specs.SameTerm.{same_term}
 use Rattle.term_base.specs.SubstTest.{follows}
-use Rattle.clause_text.specs.Text.{variable_text}
+use Rattle.term_text.specs.Texts.{variable_text}
 use Rattle.text_pieces.specs.Languages.{HasSpelling, Cat, Image}
-use Rattle.text_ends.specs.Fronts.{Front, Word}
-use Rattle.text_ends.specs.Kinds.{OneKind}
-use Rattle.text_ends.specs.Runs.{Run}
+use Rattle.text_pieces.specs.Fronts.{Front, Word}
+use Rattle.text_pieces.specs.Kinds.{OneKind}
+use Rattle.text_pieces.specs.Runs.{Run}
 use Rattle.term_text.specs.Terms.{SpellsTerm}
 use Rattle.term_text.specs.Variables.{SpellsVariable, rank}
 

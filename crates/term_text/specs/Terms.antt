@@ -9,9 +9,9 @@ use Rattle.text_pieces.specs.Decimals.{is_digit}
 use Rattle.text_pieces.specs.Languages.{Cat, Image}
 use Rattle.text_pieces.specs.Printing.{Adds}
 use Rattle.text_pieces.specs.Numbers.{Number, Word32, Signed, Signed128}
-use Rattle.text_ends.specs.Fronts.{Front, Word}
-use Rattle.text_ends.specs.Kinds.{OneKind}
-use Rattle.text_ends.specs.Runs.{Run}
+use Rattle.text_pieces.specs.Fronts.{Front, Word}
+use Rattle.text_pieces.specs.Kinds.{OneKind}
+use Rattle.text_pieces.specs.Runs.{Run}
 use Rattle.term_text.specs.declared.kinds.TermKind.{TermKind}
 use Rattle.term_text.specs.declared.kinds.TermKind.TheVariants.{Variable as VariableTerm, Number as NumberTerm, Truth, Bracket, Symbol}
 use Rattle.term_text.specs.declared.kinds.Operation.{Operation}

@@ -8,8 +8,8 @@ use Rattle.term_base.specs.declared.variables.Kind.TheVariants as kind
 use Rattle.term_base.specs.declared.variables.Variable.{Variable}
 use Rattle.text_pieces.specs.Languages.{Cat, Image}
 use Rattle.text_pieces.specs.Numbers.{Number, Within, Word32}
-use Rattle.text_ends.specs.Fronts.{Front}
-use Rattle.text_ends.specs.Kinds.{OneKind}
+use Rattle.text_pieces.specs.Fronts.{Front}
+use Rattle.text_pieces.specs.Kinds.{OneKind}
 use Rattle.term_text.specs.declared.kinds.VariableKind.{VariableKind}
 use Rattle.term_text.specs.declared.kinds.VariableKind.TheVariants.{Abstraction, Individual, Int, Declared}
 

@@ -1,8 +1,9 @@
 //! Printing of literals and clauses.
 
-ghost use Rattle.std.specs.Prelude.{◌≡◌};
+ghost use Rattle.std.specs.Prelude.{◌≡◌, ◌++◌, codes, OnOk};
 ghost use Rattle.text_pieces.specs.Printing.{Puts};
 ghost use Rattle.term_text.specs.Clauses.{SpellsLiteral, MoreLiterals, SpellsClauseLine, related, relation_word};
+ghost use Rattle.term_text.specs.Texts.{clause_text};
 ghost use Rattle.term_text.specs.declared.kinds.Relation.TheVariants as relation;
 
 use crate::kinds::Relation;
@@ -62,7 +63,8 @@ fn push_more(alloc: Global, text: &mut Vec<u8>, more: &[Literal]) -> Result<(), 
 
 /// Puts a clause and the end of its line behind the text: its literals with ` | ` between each two, or `$false` where it has none.
 pub fn push_clause_line(alloc: Global, text: &mut Vec<u8>, c: &Clause) -> Result<(), AllocError>
-    ensures { Puts SpellsClauseLine c.now text.old.items text.new.items result }
+    ensures spelled { Puts SpellsClauseLine c.now text.old.items text.new.items result }
+    ensures exact { OnOk result (text.new.items ≡ text.old.items ++ (clause_text c.now ++ codes "\n")) }
 {
     match c.literals.as_slice() {
         [] => push(text, b"$false\n"),

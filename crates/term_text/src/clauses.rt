@@ -1,8 +1,10 @@
 //! Literals and clauses.
 
 ghost use Rattle.std.specs.Prelude.{◌≡◌, false, true, codes, MatchResult};
-ghost use Rattle.text_ends.specs.Ending.{ReadsTo, UnreadTo, is_digit_or_bracket, no_byte};
-ghost use Rattle.text_ends.specs.Fronts.{Front};
+ghost use Rattle.text_pieces.specs.Languages.{ReadsTo};
+ghost use Rattle.text_pieces.specs.Failing.{UnreadTo};
+ghost use Rattle.text_pieces.specs.Ending.{is_digit_or_bracket, no_byte};
+ghost use Rattle.text_pieces.specs.Fronts.{Front};
 ghost use Rattle.term_text.specs.Clauses.{SpellsLiteral, SpellsClauseLine, ClauseParts, related};
 
 use crate::kinds::Relation;
@@ -11,11 +13,10 @@ use crate::terms::term;
 use sqlite_items::Items;
 use std::alloc::Global;
 use term_base::{Clause, Literal, Term};
-use text_ends::{begins_with, front};
-use text_pieces::{Unread, after_byte};
+use text_pieces::{Unread, after_byte, begins_with, front};
 
 // The literal of a relation and its sides.
-fn related(relation: Relation, s: Term, t: Term) -> Literal
+fn make_literal(relation: Relation, s: Term, t: Term) -> Literal
     ensures { result ≡ related relation s t }
 {
     match relation {
@@ -35,12 +36,13 @@ pub fn literal(alloc: Global, text: &[u8]) -> Result<(Literal, &[u8]), Unread>
     let (relation, behind_word) = relation(word)?;
     let at_t = front(behind_word, b" ")?;
     let (t, rest) = term(alloc, at_t)?;
-    Ok((related(relation, s, t), rest))
+    Ok((make_literal(relation, s, t), rest))
 }
 
 // A stroke, a blank and a literal.
 fn stroke_literal(alloc: Global, text: &[u8]) -> Result<(Literal, &[u8]), Unread>
-    ensures { MatchResult result (λ f. ReadsTo is_digit_or_bracket (Front (codes "| ") SpellsLiteral) text.now f.0 f.1.now)
+    ensures { MatchResult result
+        (λ f. ReadsTo is_digit_or_bracket (Front (codes "| ") SpellsLiteral) text.now f.0 f.1.now)
         (UnreadTo is_digit_or_bracket (Front (codes "| ") SpellsLiteral) text.now) }
 {
     let behind = front(text, b"| ")?;

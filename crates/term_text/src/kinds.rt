@@ -1,7 +1,7 @@
 //! What the first byte of a text tells, and the words between its parts.
 
 ghost use Rattle.std.specs.Prelude.{◌≡◌};
-ghost use Rattle.text_ends.specs.Kinds.{kind_at};
+ghost use Rattle.text_pieces.specs.Kinds.{kind_at};
 ghost use Rattle.term_text.specs.Terms.{is_letter, is_digit_or_minus, term_kind_of};
 ghost use Rattle.term_text.specs.Variables.{variable_kind_of};
 

@@ -10,14 +10,12 @@ mod places;
 mod substitutions;
 mod term_printing;
 mod terms;
-#[cfg(test)]
-mod tests;
 mod variables;
 
 pub use clause_printing::push_clause_line;
 pub use clauses::clause_line;
 pub use kinds::{Operation, Relation, TermKind, VariableKind};
-pub use laws::{one_clause_line, one_term};
+pub use laws::{definitions_give_rows, one_spelling};
 pub use places::{place, push_place, push_side, side};
 pub use substitutions::{push_substitution, substitution};
 pub use term_printing::push_term;

@@ -1,8 +1,8 @@
 //! Words between terms, and what may not follow a term.
 
 ghost use Rattle.std.specs.Prelude.{◌≡◌, MatchResult, IfOk, IfErr};
-ghost use Rattle.text_pieces.specs.Decimals.{is_digit};
-ghost use Rattle.text_ends.specs.Ending.{Free, ReadsTo, FailsTo, is_digit_or_bracket, Followed};
+ghost use Rattle.text_pieces.specs.Languages.{Free, Fails, Reads};
+ghost use Rattle.text_pieces.specs.Ending.{is_digit_or_bracket, Followed};
 ghost use Rattle.term_text.specs.Clauses.{RelationWord, relation_at};
 ghost use Rattle.term_text.specs.Terms.{Sign, number_of, operated, operation_at};
 
@@ -37,8 +37,8 @@ fn operation_at(place: usize, k: i128) -> Operation
 
 /// The sign behind the first term in brackets, and what follows. Bad at the first byte with which none goes on.
 pub fn sign<'a>(text: &'a [u8], first: &Term) -> Result<(Operation, &'a [u8]), Bad>
-    ensures { MatchResult result (λ f. ReadsTo is_digit (Sign (number_of first.now)) text.now f.0 f.1.now)
-        (λ e. FailsTo is_digit (Sign (number_of first.now)) text.now e.left) }
+    ensures { MatchResult result (λ f. Reads (Sign (number_of first.now)) text.now f.0 f.1.now)
+        (λ e. Fails (Sign (number_of first.now)) text.now e.left) }
 {
     match number_of(first) {
         Some(k) => {
@@ -50,7 +50,12 @@ pub fn sign<'a>(text: &'a [u8], first: &Term) -> Result<(Operation, &'a [u8]), B
 }
 
 /// The term that a sign and the terms around it make.
-pub fn operated(alloc: Global, a: Term, operation: Operation, b: Term) -> Result<Term, AllocError>
+pub fn apply_operation(
+    alloc: Global,
+    a: Term,
+    operation: Operation,
+    b: Term,
+) -> Result<Term, AllocError>
     ensures { IfOk result (λ t. t ≡ operated a operation b) }
 {
     match operation {
@@ -72,15 +77,15 @@ fn relation_at(place: usize) -> Relation
 
 /// The word of a relation, and what follows. Bad at the first byte with which none goes on.
 pub fn relation(text: &[u8]) -> Result<(Relation, &[u8]), Bad>
-    ensures { MatchResult result (λ f. ReadsTo is_digit RelationWord text.now f.0 f.1.now)
-        (λ e. FailsTo is_digit RelationWord text.now e.left) }
+    ensures { MatchResult result (λ f. Reads RelationWord text.now f.0 f.1.now)
+        (λ e. Fails RelationWord text.now e.left) }
 {
     let (place, rest) = one_of(text, &RELATIONS)?;
     Ok((relation_at(place), rest))
 }
 
 /// Bad where a digit or an opening bracket follows a term.
-pub fn ended(rest: &[u8]) -> Result<(), Bad>
+pub fn check_end(rest: &[u8]) -> Result<(), Bad>
     ensures ok { IfOk result (λ _. Free is_digit_or_bracket rest.now) }
     ensures err { IfErr result (λ e. Followed is_digit_or_bracket rest.now e.left) }
 {

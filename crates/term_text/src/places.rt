@@ -1,18 +1,18 @@
 //! Sides of literals, and places.
 
 ghost use Rattle.std.specs.Prelude.{◌≡◌, codes, MatchResult};
-ghost use Rattle.text_pieces.specs.Decimals.{is_digit};
 ghost use Rattle.text_pieces.specs.Numbers.{Number, Word32};
 ghost use Rattle.text_pieces.specs.Printing.{Puts};
-ghost use Rattle.text_ends.specs.Fronts.{Front};
-ghost use Rattle.text_ends.specs.Ending.{ReadsTo, UnreadTo, FailsTo, no_byte};
+ghost use Rattle.text_pieces.specs.Fronts.{Front};
+ghost use Rattle.text_pieces.specs.Languages.{ReadsTo, Fails, Reads};
+ghost use Rattle.text_pieces.specs.Failing.{UnreadTo};
+ghost use Rattle.text_pieces.specs.Ending.{no_byte};
 ghost use Rattle.term_text.specs.Places.{SpellsSide, SpellsPath, SpellsPlace, side_at, side_word};
 
 use sqlite_items::Items;
 use std::alloc::{AllocError, Global};
 use term_base::{Path, Place, Side};
-use text_ends::front;
-use text_pieces::{Bad, Unread, after_byte, one_of, push, push_decimal, word32};
+use text_pieces::{Bad, Unread, after_byte, front, one_of, push, push_decimal, word32};
 
 const SIDES: [&[u8]; 2] = [b"L", b"R"];
 
@@ -28,8 +28,8 @@ fn side_at(place: usize) -> Side
 
 /// The letter of a side, and what follows. Bad at the first byte with which none goes on.
 pub fn side(text: &[u8]) -> Result<(Side, &[u8]), Bad>
-    ensures { MatchResult result (λ f. ReadsTo is_digit SpellsSide text.now f.0 f.1.now)
-        (λ e. FailsTo is_digit SpellsSide text.now e.left) }
+    ensures { MatchResult result (λ f. Reads SpellsSide text.now f.0 f.1.now)
+        (λ e. Fails SpellsSide text.now e.left) }
 {
     let (place, rest) = one_of(text, &SIDES)?;
     Ok((side_at(place), rest))

@@ -1,9 +1,10 @@
 //! Substitutions.
 
 ghost use Rattle.std.specs.Prelude.{◌≡◌, ◌<◌, ◌+◌, ◌*◌, ◌^◌, ◌≤◌, ◌⊎◌, ◌∷◌, ℕ, List, false, None, MatchResult, IfSome, IfNone, IfOk, option_map};
-ghost use Rattle.text_pieces.specs.Languages.{HasSpelling};
+ghost use Rattle.text_pieces.specs.Languages.{HasSpelling, ReadsTo};
 ghost use Rattle.text_pieces.specs.Printing.{Puts};
-ghost use Rattle.text_ends.specs.Ending.{ReadsTo, UnreadTo, is_digit_or_bracket, no_byte};
+ghost use Rattle.text_pieces.specs.Failing.{UnreadTo};
+ghost use Rattle.text_pieces.specs.Ending.{is_digit_or_bracket, no_byte};
 ghost use Rattle.term_text.specs.Variables.{SpellsVariable, rank};
 ghost use Rattle.term_text.specs.Substitutions.{PairAfter, TermBut, PairsParts, SpellsSubst, SpellsPair, SpellsMore, low_after, is_full, BehindVariable, IsNumbered};
 
@@ -13,8 +14,7 @@ use crate::variables::{push_variable, rank, variable_from};
 use sqlite_items::Items;
 use std::alloc::{AllocError, Global};
 use term_base::{Subst, Term, Variable};
-use text_ends::{begins_with, front};
-use text_pieces::{Bad, Unread, after_byte, push};
+use text_pieces::{Bad, Unread, after_byte, begins_with, front, push};
 
 // The number that variables end before.
 const END: u128 = (3 + (1 << 32)) << 32;
@@ -104,7 +104,8 @@ fn pair_after(
 // What stands behind a comma, where there is a variable above this one.
 fn behind_comma(rest: &[u8], last: Variable) -> Option<&[u8]>
     ensures some { IfSome result (λ behind. (rest.now ≡ 44 ∷ behind.now) × (rank last + 1 < (3 + 2 ^ 32) * 2 ^ 32)) }
-    ensures none { IfNone result (((behind : List ℕ) → rest.now ≡ 44 ∷ behind → ⊥) ⊎ ((3 + 2 ^ 32) * 2 ^ 32 ≤ rank last + 1)) }
+    ensures none { IfNone result
+        (((behind : List ℕ) → rest.now ≡ 44 ∷ behind → ⊥) ⊎ ((3 + 2 ^ 32) * 2 ^ 32 ≤ rank last + 1)) }
 {
     if rank(last) + 1 < END {
         after_byte(rest, b',')

@@ -1,9 +1,10 @@
 //! Printing of terms.
 
-ghost use Rattle.std.specs.Prelude.{◌≡◌, OnOk};
+ghost use Rattle.std.specs.Prelude.{◌≡◌, ◌++◌, OnOk};
 ghost use Rattle.text_pieces.specs.Printing.{Keeps, Puts};
 ghost use Rattle.term_base.specs.declared.terms.Term.TheVariants as term;
 ghost use Rattle.term_text.specs.Terms.{SpellsTerm, Opened};
+ghost use Rattle.term_text.specs.Texts.{term_text};
 
 use crate::variables::push_variable;
 use std::alloc::{AllocError, Global};
@@ -13,7 +14,8 @@ use text_pieces::{push, push_decimal, push_signed_decimal};
 /// Puts a term behind the text.
 #[cycle(push_term)]
 pub fn push_term(alloc: Global, text: &mut Vec<u8>, t: &Term) -> Result<(), AllocError>
-    ensures { Puts SpellsTerm t.now text.old.items text.new.items result }
+    ensures spelled { Puts SpellsTerm t.now text.old.items text.new.items result }
+    ensures exact { OnOk result (text.new.items ≡ text.old.items ++ term_text t.now) }
 {
     match t {
         Term::Var(v) => push_variable(alloc, text, *v),

@@ -1,19 +1,19 @@
 //! Terms.
 
 ghost use Rattle.std.specs.Prelude.{◌≡◌, ◌∷◌, MatchResult};
-ghost use Rattle.text_pieces.specs.Languages.{NoDigit};
-ghost use Rattle.text_ends.specs.Ending.{ReadsTo, UnreadTo, is_digit_or_bracket, no_byte};
+ghost use Rattle.text_pieces.specs.Languages.{NoDigit, ReadsTo};
+ghost use Rattle.text_pieces.specs.Failing.{UnreadTo};
+ghost use Rattle.text_pieces.specs.Ending.{is_digit_or_bracket, no_byte};
 ghost use Rattle.term_text.specs.Terms.{SpellsTerm, TermParts, Arguments, ListedArguments, MoreArguments};
 ghost use Rattle.term_text.specs.declared.kinds.TermKind.TheVariants as kind;
 
 use crate::kinds::{TermKind, term_kind};
-use crate::operations::{ended, operated, sign};
+use crate::operations::{apply_operation, check_end, sign};
 use crate::variables::variable;
 use sqlite_items::Items;
 use std::alloc::Global;
 use term_base::Term;
-use text_ends::{begins_with, front};
-use text_pieces::{Unread, after_byte, signed, word32};
+use text_pieces::{Unread, after_byte, begins_with, front, signed, word32};
 
 /// The term in front of the bytes, and what follows: neither a digit nor an opening bracket. Bad at the first byte with which
 /// none goes on.
@@ -33,42 +33,46 @@ pub fn term(alloc: Global, text: &[u8]) -> Result<(Term, &[u8]), Unread>
 
 // A variable.
 fn variable_term(text: &[u8]) -> Result<(Term, &[u8]), Unread>
-    ensures { MatchResult result (λ f. ReadsTo is_digit_or_bracket (TermParts SpellsTerm kind.Variable) text.now f.0 f.1.now)
+    ensures { MatchResult result
+        (λ f. ReadsTo is_digit_or_bracket (TermParts SpellsTerm kind.Variable) text.now f.0 f.1.now)
         (UnreadTo is_digit_or_bracket (TermParts SpellsTerm kind.Variable) text.now) }
 {
     let (v, rest) = variable(text)?;
-    ended(rest)?;
+    check_end(rest)?;
     Ok((Term::Var(v), rest))
 }
 
 // A number.
 fn number_term(text: &[u8]) -> Result<(Term, &[u8]), Unread>
-    ensures { MatchResult result (λ f. ReadsTo is_digit_or_bracket (TermParts SpellsTerm kind.Number) text.now f.0 f.1.now)
+    ensures { MatchResult result
+        (λ f. ReadsTo is_digit_or_bracket (TermParts SpellsTerm kind.Number) text.now f.0 f.1.now)
         (UnreadTo is_digit_or_bracket (TermParts SpellsTerm kind.Number) text.now) }
 {
     let (n, rest) = signed(text, 0)?;
-    ended(rest)?;
+    check_end(rest)?;
     Ok((Term::Num(n), rest))
 }
 
 // The truth value.
 fn truth(text: &[u8]) -> Result<(Term, &[u8]), Unread>
-    ensures { MatchResult result (λ f. ReadsTo is_digit_or_bracket (TermParts SpellsTerm kind.Truth) text.now f.0 f.1.now)
+    ensures { MatchResult result
+        (λ f. ReadsTo is_digit_or_bracket (TermParts SpellsTerm kind.Truth) text.now f.0 f.1.now)
         (UnreadTo is_digit_or_bracket (TermParts SpellsTerm kind.Truth) text.now) }
 {
     let rest = front(text, b"true")?;
-    ended(rest)?;
+    check_end(rest)?;
     Ok((Term::True, rest))
 }
 
 // A sum or a multiple.
 #[cycle(term)]
 fn bracket(alloc: Global, text: &[u8]) -> Result<(Term, &[u8]), Unread>
-    ensures { MatchResult result (λ f. ReadsTo is_digit_or_bracket (TermParts SpellsTerm kind.Bracket) text.now f.0 f.1.now)
+    ensures { MatchResult result
+        (λ f. ReadsTo is_digit_or_bracket (TermParts SpellsTerm kind.Bracket) text.now f.0 f.1.now)
         (UnreadTo is_digit_or_bracket (TermParts SpellsTerm kind.Bracket) text.now) }
 {
     let (t, rest) = in_brackets(alloc, text)?;
-    ended(rest)?;
+    check_end(rest)?;
     Ok((t, rest))
 }
 
@@ -85,14 +89,15 @@ fn in_brackets(alloc: Global, text: &[u8]) -> Result<(Term, &[u8]), Unread>
     let at_b = front(behind_sign, b" ")?;
     let (b, behind_b) = term(alloc, at_b)?;
     let rest = front(behind_b, b")")?;
-    let whole = operated(alloc, a, operation, b)?;
+    let whole = apply_operation(alloc, a, operation, b)?;
     Ok((whole, rest))
 }
 
 // A symbol with its arguments.
 #[cycle(term)]
 fn symbol(alloc: Global, text: &[u8]) -> Result<(Term, &[u8]), Unread>
-    ensures { MatchResult result (λ f. ReadsTo is_digit_or_bracket (TermParts SpellsTerm kind.Symbol) text.now f.0 f.1.now)
+    ensures { MatchResult result
+        (λ f. ReadsTo is_digit_or_bracket (TermParts SpellsTerm kind.Symbol) text.now f.0 f.1.now)
         (UnreadTo is_digit_or_bracket (TermParts SpellsTerm kind.Symbol) text.now) }
 {
     let number = front(text, b"s")?;
@@ -112,7 +117,7 @@ fn arguments(alloc: Global, text: &[u8]) -> Result<(Items<Term>, &[u8]), Unread>
         return Ok((Items::new(alloc), text));
     }
     let (all, rest) = listed(alloc, text)?;
-    ended(rest)?;
+    check_end(rest)?;
     Ok((all, rest))
 }
 

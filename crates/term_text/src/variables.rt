@@ -1,20 +1,18 @@
 //! Variables.
 
 ghost use Rattle.std.specs.Prelude.{◌≡◌, ◌<◌, ◌+◌, ◌*◌, ◌-◌, ◌^◌, MatchResult};
-ghost use Rattle.text_pieces.specs.Decimals.{is_digit};
 ghost use Rattle.text_pieces.specs.Numbers.{Number, Within, Word32};
 ghost use Rattle.text_pieces.specs.Printing.{Puts};
-ghost use Rattle.text_ends.specs.Ending.{ReadsTo, FailsTo};
-ghost use Rattle.text_ends.specs.Fronts.{Front};
-ghost use Rattle.text_ends.specs.Kinds.{kind_at};
+ghost use Rattle.text_pieces.specs.Fronts.{Front};
+ghost use Rattle.text_pieces.specs.Kinds.{kind_at};
+ghost use Rattle.text_pieces.specs.Languages.{Fails, Reads};
 ghost use Rattle.term_text.specs.Variables.{SpellsVariable, VariableFrom, SortedFrom, declared, id_from, variable_kind_of, rank, ordinary_rank};
 ghost use Rattle.term_text.specs.declared.kinds.VariableKind.TheVariants as kind;
 
 use crate::kinds::{VariableKind, variable_kind};
 use std::alloc::{AllocError, Global};
 use term_base::{Kind, Sort, Variable};
-use text_ends::front;
-use text_pieces::{Bad, number, push, push_decimal};
+use text_pieces::{Bad, front, number, push, push_decimal};
 
 // The largest number of 32 bits.
 const LARGEST: u128 = (1 << 32) - 1;
@@ -49,10 +47,11 @@ pub fn rank(v: Variable) -> u128
 }
 
 // The letter and the id from this one on, and what follows.
-fn lettered<'a>(text: &'a [u8], letter: &[u8], least: u128) -> Result<(u32, &'a [u8]), Bad>
+fn letter_and_id<'a>(text: &'a [u8], letter: &[u8], least: u128) -> Result<(u32, &'a [u8]), Bad>
     requires { least < 2 ^ 32 }
-    ensures { MatchResult result (λ f. ReadsTo is_digit (Front letter.now (Number (Within least (2 ^ 32 - 1)))) text.now f.0 f.1.now)
-        (λ e. FailsTo is_digit (Front letter.now (Number (Within least (2 ^ 32 - 1)))) text.now e.left) }
+    ensures { MatchResult result
+        (λ f. Reads (Front letter.now (Number (Within least (2 ^ 32 - 1)))) text.now f.0 f.1.now)
+        (λ e. Fails (Front letter.now (Number (Within least (2 ^ 32 - 1)))) text.now e.left) }
 {
     let behind = front(text, letter)?;
     let (id, rest) = number(behind, least, LARGEST)?;
@@ -63,13 +62,13 @@ fn lettered<'a>(text: &'a [u8], letter: &[u8], least: u128) -> Result<(u32, &'a 
 fn abstraction_from(text: &[u8], low: u128) -> Result<(Variable, &[u8]), Bad>
     requires low { low < (3 + 2 ^ 32) * 2 ^ 32 }
     requires kind { kind_at variable_kind_of kind.Declared text.now ≡ kind.Abstraction }
-    ensures { MatchResult result (λ f. ReadsTo is_digit (VariableFrom low) text.now f.0 f.1.now)
-        (λ e. FailsTo is_digit (VariableFrom low) text.now e.left) }
+    ensures { MatchResult result (λ f. Reads (VariableFrom low) text.now f.0 f.1.now)
+        (λ e. Fails (VariableFrom low) text.now e.left) }
 {
     if low >= INDIVIDUALS {
         return Err(Bad { left: text.len() });
     }
-    let (id, rest) = lettered(text, b"A", low)?;
+    let (id, rest) = letter_and_id(text, b"A", low)?;
     Ok((Variable::abstraction(id), rest))
 }
 
@@ -77,13 +76,13 @@ fn abstraction_from(text: &[u8], low: u128) -> Result<(Variable, &[u8]), Bad>
 fn individual_from(text: &[u8], low: u128) -> Result<(Variable, &[u8]), Bad>
     requires low { low < (3 + 2 ^ 32) * 2 ^ 32 }
     requires kind { kind_at variable_kind_of kind.Declared text.now ≡ kind.Individual }
-    ensures { MatchResult result (λ f. ReadsTo is_digit (VariableFrom low) text.now f.0 f.1.now)
-        (λ e. FailsTo is_digit (VariableFrom low) text.now e.left) }
+    ensures { MatchResult result (λ f. Reads (VariableFrom low) text.now f.0 f.1.now)
+        (λ e. Fails (VariableFrom low) text.now e.left) }
 {
     if low >= INTEGERS {
         return Err(Bad { left: text.len() });
     }
-    let (id, rest) = lettered(text, b"I", low.saturating_sub(INDIVIDUALS))?;
+    let (id, rest) = letter_and_id(text, b"I", low.saturating_sub(INDIVIDUALS))?;
     Ok((Variable::ordinary(Sort::Individual, id), rest))
 }
 
@@ -91,13 +90,13 @@ fn individual_from(text: &[u8], low: u128) -> Result<(Variable, &[u8]), Bad>
 fn integer_from(text: &[u8], low: u128) -> Result<(Variable, &[u8]), Bad>
     requires low { low < (3 + 2 ^ 32) * 2 ^ 32 }
     requires kind { kind_at variable_kind_of kind.Declared text.now ≡ kind.Int }
-    ensures { MatchResult result (λ f. ReadsTo is_digit (VariableFrom low) text.now f.0 f.1.now)
-        (λ e. FailsTo is_digit (VariableFrom low) text.now e.left) }
+    ensures { MatchResult result (λ f. Reads (VariableFrom low) text.now f.0 f.1.now)
+        (λ e. Fails (VariableFrom low) text.now e.left) }
 {
     if low >= DECLARED {
         return Err(Bad { left: text.len() });
     }
-    let (id, rest) = lettered(text, b"N", low.saturating_sub(INTEGERS))?;
+    let (id, rest) = letter_and_id(text, b"N", low.saturating_sub(INTEGERS))?;
     Ok((Variable::ordinary(Sort::Int, id), rest))
 }
 
@@ -113,10 +112,10 @@ fn id_from(least: u128, n: u128) -> u128
 }
 
 // The number of a sort and the id of one of its variables, from this number of both on.
-fn sorted(text: &[u8], least: u128) -> Result<((u32, u32), &[u8]), Bad>
+fn sort_and_id(text: &[u8], least: u128) -> Result<((u32, u32), &[u8]), Bad>
     requires { least < 2 ^ 32 * 2 ^ 32 }
-    ensures { MatchResult result (λ f. ReadsTo is_digit (SortedFrom least) text.now f.0 f.1.now)
-        (λ e. FailsTo is_digit (SortedFrom least) text.now e.left) }
+    ensures { MatchResult result (λ f. Reads (SortedFrom least) text.now f.0 f.1.now)
+        (λ e. Fails (SortedFrom least) text.now e.left) }
 {
     let begin = least / INDIVIDUALS;
     let behind = front(text, b"D")?;
@@ -131,18 +130,18 @@ fn sorted(text: &[u8], least: u128) -> Result<((u32, u32), &[u8]), Bad>
 fn declared_from(text: &[u8], low: u128) -> Result<(Variable, &[u8]), Bad>
     requires low { low < (3 + 2 ^ 32) * 2 ^ 32 }
     requires kind { kind_at variable_kind_of kind.Declared text.now ≡ kind.Declared }
-    ensures { MatchResult result (λ f. ReadsTo is_digit (VariableFrom low) text.now f.0 f.1.now)
-        (λ e. FailsTo is_digit (VariableFrom low) text.now e.left) }
+    ensures { MatchResult result (λ f. Reads (VariableFrom low) text.now f.0 f.1.now)
+        (λ e. Fails (VariableFrom low) text.now e.left) }
 {
-    let ((n, id), rest) = sorted(text, low.saturating_sub(DECLARED))?;
+    let ((n, id), rest) = sort_and_id(text, low.saturating_sub(DECLARED))?;
     Ok((Variable::ordinary(Sort::Declared(n), id), rest))
 }
 
 /// The variable from this number on in front of the bytes, and what follows. Bad at the first byte with which none goes on.
 pub fn variable_from(text: &[u8], low: u128) -> Result<(Variable, &[u8]), Bad>
     requires { low < (3 + 2 ^ 32) * 2 ^ 32 }
-    ensures { MatchResult result (λ f. ReadsTo is_digit (VariableFrom low) text.now f.0 f.1.now)
-        (λ e. FailsTo is_digit (VariableFrom low) text.now e.left) }
+    ensures { MatchResult result (λ f. Reads (VariableFrom low) text.now f.0 f.1.now)
+        (λ e. Fails (VariableFrom low) text.now e.left) }
 {
     match variable_kind(text) {
         VariableKind::Abstraction => abstraction_from(text, low),
@@ -154,8 +153,8 @@ pub fn variable_from(text: &[u8], low: u128) -> Result<(Variable, &[u8]), Bad>
 
 /// The variable in front of the bytes, and what follows. Bad at the first byte with which none goes on.
 pub fn variable(text: &[u8]) -> Result<(Variable, &[u8]), Bad>
-    ensures { MatchResult result (λ f. ReadsTo is_digit SpellsVariable text.now f.0 f.1.now)
-        (λ e. FailsTo is_digit SpellsVariable text.now e.left) }
+    ensures { MatchResult result (λ f. Reads SpellsVariable text.now f.0 f.1.now)
+        (λ e. Fails SpellsVariable text.now e.left) }
 {
     variable_from(text, 0)
 }

@@ -14,3 +14,10 @@ pub mod OneText
 pub mod Keeping
 pub mod Having
 pub mod Tails
+pub mod Ends
+pub mod Lifts
+pub mod WordReading
+pub mod Kinded
+pub mod Running
+pub mod Limits
+pub mod Putting

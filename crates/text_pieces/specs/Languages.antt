@@ -1,11 +1,15 @@
 -- Languages: which texts spell which values; what it is to read one in front of the bytes, and where no spelling goes on.
-use Rattle.std.specs.Prelude.{◌≡◌, ℕ, zero, suc, ◌<◌, false, List, [], ◌∷◌, ◌++◌, length, Some, slice_get}
+use Rattle.std.specs.Prelude.{◌≡◌, ℕ, zero, suc, ◌<◌, Bool, false, List, [], ◌∷◌, ◌++◌, length, Some, slice_get}
 use Rattle.text_pieces.specs.Decimals.{is_digit}
+
+-- the first byte, where there is one, is none of these
+abbrev pub Free : (ℕ → Bool) → List ℕ → Type 0
+Free more [] = Unit {0}
+Free more (b ∷ bs) = more b ≡ false
 
 -- the first byte, where there is one, is no digit
 abbrev pub NoDigit : List ℕ → Type 0
-NoDigit [] = Unit {0}
-NoDigit (b ∷ bs) = is_digit b ≡ false
+NoDigit = Free is_digit
 
 -- the value has a spelling
 pub record HasSpelling {A : Type 0} (L : A → List ℕ → Type 0) (value : A) : Type 0 where
@@ -20,27 +24,35 @@ pub record GoesOn {A : Type 0} (L : A → List ℕ → Type 0) (front : List ℕ
   pub spelled : L value text
   pub begins : text ≡ front ++ tail
 
--- a spelling of the value begins the bytes, and no digit follows it
-pub record Reads {A : Type 0} (L : A → List ℕ → Type 0) (bytes : List ℕ) (value : A) (rest : List ℕ) : Type 0 where
+-- a spelling of the value begins the bytes, and none of these bytes follows it
+pub record ReadsTo {A : Type 0} (more : ℕ → Bool) (L : A → List ℕ → Type 0) (bytes : List ℕ) (value : A) (rest : List ℕ) : Type 0 where
   pub text : List ℕ
   pub spelled : L value text
   pub whole : bytes ≡ text ++ rest
-  pub ends : NoDigit rest
+  pub ends : Free more rest
+
+-- a spelling of the value begins the bytes, and no digit follows it
+abbrev pub Reads : {A : Type 0} → (A → List ℕ → Type 0) → List ℕ → A → List ℕ → Type 0
+Reads = ReadsTo is_digit
 
 -- no spelling goes on with the first byte of the rest behind this front
 abbrev pub StopsAt : {A : Type 0} → (A → List ℕ → Type 0) → List ℕ → List ℕ → Type 0
 StopsAt L front [] = Unit {0}
 StopsAt L front (b ∷ bs) = GoesOn L (front ++ b ∷ []) → ⊥
 
--- no spelling that no digit follows begins the bytes, and so many bytes are left from the first with which none goes on
-pub record Fails {A : Type 0} (L : A → List ℕ → Type 0) (bytes : List ℕ) (left : ℕ) : Type 0 where
+-- no spelling that none of these bytes follows begins the bytes, and so many bytes are left from the first with which none goes on
+pub record FailsTo {A : Type 0} (more : ℕ → Bool) (L : A → List ℕ → Type 0) (bytes : List ℕ) (left : ℕ) : Type 0 where
   pub front : List ℕ
   pub rest : List ℕ
   pub whole : bytes ≡ front ++ rest
   pub left_is : length rest ≡ left
   pub goes_on : GoesOn L front
   pub stops : StopsAt L front rest
-  pub none : (a : A) (rest' : List ℕ) → Reads L bytes a rest' → ⊥
+  pub none : (a : A) (rest' : List ℕ) → ReadsTo more L bytes a rest' → ⊥
+
+-- no spelling that no digit follows begins the bytes, and so many bytes are left from the first with which none goes on
+abbrev pub Fails : {A : Type 0} → (A → List ℕ → Type 0) → List ℕ → ℕ → Type 0
+Fails = FailsTo is_digit
 
 -- a text of the first language, and behind it one of the second, which may depend on the first value
 pub record Cat {A B : Type 0} (L : A → List ℕ → Type 0) (M : A → B → List ℕ → Type 0) (value : A × B) (text : List ℕ) : Type 0 where

@@ -6,3 +6,7 @@ pub mod Counting
 pub mod Printing
 pub mod Unambiguous
 pub mod Separated
+pub mod Ending
+pub mod Fronts
+pub mod Kinds
+pub mod Runs

@@ -31,7 +31,8 @@ pub fn blank_signed(text: &[u8], least: u64) -> Result<(i128, &[u8]), Bad>
 /// A blank and behind it a count of any size, and what follows. Each count past the largest `u128` is read as that one.
 /// Bad at the first byte with which no count goes on.
 pub fn blank_count(text: &[u8]) -> Result<(u128, &[u8]), Bad>
-    ensures { MatchResult result (λ f. BlankCount text.now f.0 f.1.now) (λ e. Fails (Blank (Number Any)) text.now e.left) }
+    ensures { MatchResult result (λ f. BlankCount text.now f.0 f.1.now)
+        (λ e. Fails (Blank (Number Any)) text.now e.left) }
 {
     count(blank(text)?)
 }

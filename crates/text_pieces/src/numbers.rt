@@ -67,7 +67,8 @@ fn with_digit(value: u128, digit: u8, low: u128, high: u128) -> Option<u128>
     requires digit { digit < 10 }
     requires narrow { low < 2 ^ 64 }
     requires ordered { low ≤ high }
-    ensures some { IfSome result (λ w. (w ≡ 10 * value + digit) × (0 < value) × GoesOn (Number (Within low high)) (decimal w)) }
+    ensures some { IfSome result
+        (λ w. (w ≡ 10 * value + digit) × (0 < value) × GoesOn (Number (Within low high)) (decimal w)) }
     ensures none { IfNone result (0 < value → Reaches (Within low high) (10 * value + digit) → ⊥) }
 {
     if value == 0 {
@@ -85,7 +86,8 @@ fn with_digit(value: u128, digit: u8, low: u128, high: u128) -> Option<u128>
 fn first_digit(text: &[u8], low: u128, high: u128) -> Result<(u128, &[u8]), Bad>
     requires narrow { low < 2 ^ 64 }
     requires ordered { low ≤ high }
-    ensures ok { IfOk result (λ f. (text.now ≡ decimal f.0 ++ f.1.now) × GoesOn (Number (Within low high)) (decimal f.0)) }
+    ensures ok { IfOk result
+        (λ f. (text.now ≡ decimal f.0 ++ f.1.now) × GoesOn (Number (Within low high)) (decimal f.0)) }
     ensures err { IfErr result (λ e. Fails (Number (Within low high)) text.now e.left) }
 {
     let Some((digit, rest)) = next_digit(text) else {

@@ -1,6 +1,6 @@
 use Rattle.std.proofs.lemmas.Result.{MatchResult-weaker}
 use Rattle.proof_text.specs.Rules.{Index}
-use Rattle.text_ends.proofs.Putting.{adds-front}
+use Rattle.text_pieces.proofs.Putting.{adds-front}
 use Rattle.proof_text.proofs.rule_printing.push_of.Goals as goal
 
 pub returns : goal.returns

@@ -1,6 +1,6 @@
 use Rattle.std.proofs.lemmas.Result.{err_from_is_err_and}
 use Rattle.text_pieces.specs.Decimals.{is_digit}
-use Rattle.text_ends.proofs.Lifts.{lift-image}
+use Rattle.text_pieces.proofs.Lifts.{lift-image}
 use Rattle.proof_text.specs.Rules.{Index}
 use Rattle.proof_steps.specs.declared.steps.Rule.TheVariants as rule
 use Rattle.proof_text.proofs.rules.abstraction.Goals as goal

@@ -1,8 +1,8 @@
 use Rattle.std.specs.Prelude.{codes}
 use Rattle.std.proofs.lemmas.Result.{err_from_is_err_and, MatchResult-weaker}
-use Rattle.text_ends.specs.Ending.{no_byte}
-use Rattle.text_ends.proofs.Lifts.{lift-self, last_unread}
-use Rattle.text_ends.proofs.Words.{read_front, front_fails}
+use Rattle.text_pieces.specs.Ending.{no_byte}
+use Rattle.text_pieces.proofs.Lifts.{lift-self, last_unread}
+use Rattle.text_pieces.proofs.WordReading.{read_front, front_fails}
 use Rattle.proof_text.specs.Rules.{At}
 use Rattle.term_text.proofs.PlaceReading.{sure-place}
 use Rattle.proof_text.proofs.rules.at.Goals as goal

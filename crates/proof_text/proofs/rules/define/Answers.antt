@@ -3,10 +3,9 @@ use Rattle.std.proofs.lemmas.Result.{err_from_is_err_and}
 use Rattle.text_pieces.specs.Decimals.{is_digit}
 use Rattle.text_pieces.specs.Languages.{Cat}
 use Rattle.text_pieces.specs.Numbers.{Number, Word32}
-use Rattle.text_ends.specs.Fronts.{Front}
-use Rattle.text_ends.proofs.Ends.{was_read, was_bad}
-use Rattle.text_ends.proofs.Lifts.{lift-image, read_next, next_unread}
-use Rattle.text_ends.proofs.Words.{read_front, front_fails, sure-front}
+use Rattle.text_pieces.specs.Fronts.{Front}
+use Rattle.text_pieces.proofs.Lifts.{lift-image, read_next, next_unread}
+use Rattle.text_pieces.proofs.WordReading.{read_front, front_fails, sure-front}
 use Rattle.proof_text.specs.Rules.{define_of}
 use Rattle.proof_text.proofs.RuleFronts.{next-symbol}
 use Rattle.term_text.specs.Terms.{SpellsTerm}
@@ -33,11 +32,11 @@ returns-in_err-symbol c =
     let l1 = read_next l0 (sure-front (codes " ") sure-term) (λ t. next-symbol) c.in_ok-term.ensures in
     let l2 = read_front (codes " s") l1 c.in_ok-at_symbol.ensures.ok in
     let p = err_from_is_err_and c.from_residual-in_err-symbol.result c.from_residual-in_err-symbol.ensures.1 in
-    rw (p.1, p.2) (l2.fails _ (was_bad c.in_err-symbol.ensures))
+    rw (p.1, p.2) (l2.fails _ c.in_err-symbol.ensures)
 
 pub returns : goal.returns
 returns c =
     let l0 = lift-image is_digit define_of (Cat (Front (codes " ") SpellsTerm) (λ t. Front (codes " s") (Number Word32))) c.args.text.now in
     let l1 = read_next l0 (sure-front (codes " ") sure-term) (λ t. next-symbol) c.in_ok-term.ensures in
     let l2 = read_front (codes " s") l1 c.in_ok-at_symbol.ensures.ok in
-    l2.reads _ _ (was_read c.in_ok-symbol.ensures)
+    l2.reads _ _ c.in_ok-symbol.ensures

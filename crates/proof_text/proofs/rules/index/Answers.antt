@@ -1,9 +1,8 @@
 use Rattle.std.specs.Prelude.{codes}
 use Rattle.std.proofs.lemmas.Result.{err_from_is_err_and, MatchResult-weaker}
 use Rattle.text_pieces.specs.Decimals.{is_digit}
-use Rattle.text_ends.proofs.Ends.{was_read, was_bad}
-use Rattle.text_ends.proofs.Lifts.{lift-self}
-use Rattle.text_ends.proofs.Words.{read_front, front_fails}
+use Rattle.text_pieces.proofs.Lifts.{lift-self}
+use Rattle.text_pieces.proofs.WordReading.{read_front, front_fails}
 use Rattle.proof_text.specs.Rules.{Index}
 use Rattle.term_text.proofs.VariableFronts.{sure-word32}
 use Rattle.proof_text.proofs.rules.index.Goals as goal
@@ -18,4 +17,4 @@ pub returns : goal.returns
 returns c =
     let l0 = lift-self is_digit Index c.args.text.now in
     let l1 = read_front (codes " ") l0 c.in_ok-behind.ensures.ok in
-    MatchResult-weaker c.word32.result c.word32.ensures (λ f r. l1.reads f.0 f.1.now (was_read r)) (λ e f. l1.fails e.left (was_bad f))
+    MatchResult-weaker c.word32.result c.word32.ensures (λ f r. l1.reads f.0 f.1.now r) (λ e f. l1.fails e.left f)

@@ -1,7 +1,7 @@
 use Rattle.std.proofs.lemmas.Result.{err_from_is_err_and}
 use Rattle.text_pieces.specs.Decimals.{is_digit}
 use Rattle.text_pieces.specs.Languages.{Cat}
-use Rattle.text_ends.proofs.Lifts.{lift-image, read_next, next_fails}
+use Rattle.text_pieces.proofs.Lifts.{lift-image, read_next, next_fails}
 use Rattle.proof_text.specs.Rules.{Index, pin_of}
 use Rattle.proof_text.proofs.RuleFronts.{sure-index, next-index}
 use Rattle.proof_text.proofs.rules.pin.Goals as goal

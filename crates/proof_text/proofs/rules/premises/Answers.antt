@@ -2,10 +2,9 @@ use Rattle.std.proofs.Common.{true, false, [], ◌∙◌, sym}
 use Rattle.std.specs.Prelude.{codes}
 use Rattle.std.proofs.lemmas.Result.{err_from_is_err_and, MatchResult-weaker}
 use Rattle.text_pieces.specs.Decimals.{is_digit}
-use Rattle.text_ends.specs.Fronts.{Word}
-use Rattle.text_ends.proofs.Ends.{was_read, was_bad}
-use Rattle.text_ends.proofs.Lifts.{lift-self, lift-then, lift-image, last_unread}
-use Rattle.text_ends.proofs.Words.{read_front, front_fails}
+use Rattle.text_pieces.specs.Fronts.{Word}
+use Rattle.text_pieces.proofs.Lifts.{lift-self, lift-then, lift-image, last_unread}
+use Rattle.text_pieces.proofs.WordReading.{read_front, front_fails}
 use Rattle.proof_text.specs.Rules.{Premises}
 use Rattle.proof_text.proofs.RuleFronts.{sure-premises_kinds, premises_at}
 use Rattle.proof_text.proofs.rules.premises.Goals as goal
@@ -22,14 +21,14 @@ returns-in_err-rest c =
     let l1 = read_front (codes " ") l0 c.in_ok-behind.ensures.ok in
     let l2 = lift-then l1 (lift-then (premises_at c.in_ok-behind.behind.now true (sym c.begins_with.ensures ∙ c.if-begins_with.true)) (lift-image is_digit (λ (u : Unit {0}). []) (Word (codes "- ")) c.in_ok-behind.behind.now)) in
     let p = err_from_is_err_and c.from_residual-in_err-rest.result c.from_residual-in_err-rest.ensures.1 in
-    rw (p.1, p.2) (l2.fails _ (was_bad c.in_err-rest.ensures))
+    rw (p.1, p.2) (l2.fails _ c.in_err-rest.ensures)
 
 pub returns-then-begins_with : goal.returns-then-begins_with
 returns-then-begins_with c =
     let l0 = lift-self is_digit Premises c.args.text.now in
     let l1 = read_front (codes " ") l0 c.in_ok-behind.ensures.ok in
     let l2 = lift-then l1 (lift-then (premises_at c.in_ok-behind.behind.now true (sym c.begins_with.ensures ∙ c.if-begins_with.true)) (lift-image is_digit (λ (u : Unit {0}). []) (Word (codes "- ")) c.in_ok-behind.behind.now)) in
-    rw c.new.ensures (l2.reads tt _ (was_read c.in_ok-rest.ensures))
+    rw c.new.ensures (l2.reads tt _ c.in_ok-rest.ensures)
 
 pub returns : goal.returns
 returns c =

@@ -1,7 +1,7 @@
 use Rattle.std.proofs.lemmas.Result.{err_from_is_err_and}
 use Rattle.text_pieces.specs.Decimals.{is_digit}
 use Rattle.text_pieces.specs.Languages.{Cat}
-use Rattle.text_ends.proofs.Lifts.{lift-image, read_next, next_fails, last_unread}
+use Rattle.text_pieces.proofs.Lifts.{lift-image, read_next, next_fails, last_unread}
 use Rattle.proof_text.specs.Rules.{Index, Written, resolve_of}
 use Rattle.proof_text.proofs.RuleFronts.{sure-index, next-written, next-resolved}
 use Rattle.proof_text.proofs.rules.resolve.Goals as goal

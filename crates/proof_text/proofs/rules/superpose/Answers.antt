@@ -3,9 +3,9 @@ use Rattle.std.proofs.lemmas.Result.{err_from_is_err_and}
 use Rattle.text_pieces.specs.Decimals.{is_digit}
 use Rattle.text_pieces.specs.Languages.{Cat}
 use Rattle.text_pieces.specs.Numbers.{Number, Word32}
-use Rattle.text_ends.specs.Ending.{no_byte}
-use Rattle.text_ends.specs.Fronts.{Front}
-use Rattle.text_ends.proofs.Lifts.{lift-image, read_next, next_fails, next_unread, last_unread}
+use Rattle.text_pieces.specs.Ending.{no_byte}
+use Rattle.text_pieces.specs.Fronts.{Front}
+use Rattle.text_pieces.proofs.Lifts.{lift-image, read_next, next_fails, next_unread, last_unread}
 use Rattle.proof_text.specs.Rules.{Index, Written, At, superpose_of}
 use Rattle.proof_text.proofs.RuleFronts.{sure-index, after-written, sure-at, next-s2, next-place, next-into, next-from_side, next-from_literal, sure-dotted}
 use Rattle.term_text.specs.Places.{SpellsSide}

@@ -2,7 +2,7 @@ use Rattle.std.proofs.Common.{◌≡◌, subst, arith, suc, ◌+◌}
 use Rattle.std.specs.Prelude.{codes}
 use Rattle.std.proofs.lemmas.Result.{MatchResult-weaker}
 use Rattle.proof_text.specs.Derivations.{StepLine}
-use Rattle.text_ends.proofs.Putting.{put_none, put_next, put_end, Putting}
+use Rattle.text_pieces.proofs.Putting.{put_none, put_next, put_end, Putting}
 use Rattle.proof_text.proofs.step_printing.push_steps.Goals as goal
 
 pub loop-n-init : goal.loop-n-init

@@ -1,6 +1,6 @@
 use Rattle.std.proofs.Common.{suc}
 use Rattle.std.specs.Prelude.{codes}
-use Rattle.text_ends.proofs.Putting.{Putting}
+use Rattle.text_pieces.proofs.Putting.{Putting}
 use Rattle.proof_text.specs.Derivations.{StepLine}
 use Rattle.proof_text.proofs.step_printing.push_steps.Given as goal
 

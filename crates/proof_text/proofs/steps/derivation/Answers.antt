@@ -1,10 +1,10 @@
 use Rattle.std.specs.Prelude.{codes}
 use Rattle.std.proofs.lemmas.Result.{err_from_is_err_and}
 use Rattle.text_pieces.specs.Languages.{Cat}
-use Rattle.text_ends.specs.Ending.{no_byte}
-use Rattle.text_ends.specs.Fronts.{Front}
-use Rattle.text_ends.proofs.Lifts.{lift-image, read_next, next_fails, last_unread}
-use Rattle.text_ends.proofs.Words.{read_front, front_fails}
+use Rattle.text_pieces.specs.Ending.{no_byte}
+use Rattle.text_pieces.specs.Fronts.{Front}
+use Rattle.text_pieces.proofs.Lifts.{lift-image, read_next, next_fails, last_unread}
+use Rattle.text_pieces.proofs.WordReading.{read_front, front_fails}
 use Rattle.proof_text.specs.Derivations.{StepLines, VariablesWord, derivation_of}
 use Rattle.proof_text.proofs.RuleWords.{sure-variables_word}
 use Rattle.proof_text.proofs.StepFronts.{sure-steps, next-steps, sure-header}

@@ -1,8 +1,8 @@
 use Rattle.std.specs.Prelude.{codes}
 use Rattle.std.proofs.lemmas.Result.{err_from_is_err_and}
-use Rattle.text_ends.specs.Ending.{no_byte}
-use Rattle.text_ends.proofs.Lifts.{lift-self, read_next, next_fails, last_unread}
-use Rattle.text_ends.proofs.Words.{read_front, front_fails}
+use Rattle.text_pieces.specs.Ending.{no_byte}
+use Rattle.text_pieces.proofs.Lifts.{lift-self, read_next, next_fails, last_unread}
+use Rattle.text_pieces.proofs.WordReading.{read_front, front_fails}
 use Rattle.proof_text.specs.Derivations.{Spells}
 use Rattle.proof_text.proofs.RuleWords.{sure-status_word}
 use Rattle.proof_text.proofs.StepFronts.{next-derivation, sure-status, sure-derivation}

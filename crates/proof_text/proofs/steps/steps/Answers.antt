@@ -1,6 +1,8 @@
 use Rattle.std.proofs.Common.{◌∙◌, sym, subst, append-nil, length}
 use Rattle.std.proofs.lemmas.Result.{err_from_is_err_and}
-use Rattle.text_ends.specs.Ending.{ReadsTo, no_byte, UnreadTo}
+use Rattle.text_pieces.specs.Languages.{ReadsTo}
+use Rattle.text_pieces.specs.Ending.{no_byte}
+use Rattle.text_pieces.specs.Failing.{UnreadTo}
 use Rattle.proof_text.specs.Derivations.{StepLine, StepLines}
 use Rattle.proof_text.proofs.StepFronts.{step_none, step_read, one_step_more, step_unread, steps_end, steps_open}
 use Rattle.proof_text.proofs.steps.steps.Goals as goal

@@ -1,6 +1,6 @@
 use Rattle.std.proofs.Common.{true, false, ◌∙◌, sym}
 use Rattle.std.proofs.lemmas.Result.{MatchResult-weaker}
-use Rattle.text_ends.proofs.Lifts.{last_unread}
+use Rattle.text_pieces.proofs.Lifts.{last_unread}
 use Rattle.term_text.proofs.ClauseReading.{clause_at}
 use Rattle.term_text.proofs.clauses.clause_line.Goals as goal
 

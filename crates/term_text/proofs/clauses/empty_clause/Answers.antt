@@ -1,11 +1,11 @@
 use Rattle.std.proofs.Common.{[]}
 use Rattle.std.specs.Prelude.{codes}
 use Rattle.std.proofs.lemmas.Result.{err_from_is_err_and}
-use Rattle.text_ends.specs.Ending.{no_byte}
-use Rattle.text_ends.specs.Fronts.{Word}
-use Rattle.text_ends.proofs.Ends.{free_none}
-use Rattle.text_ends.proofs.Lifts.{lift-image}
-use Rattle.text_ends.proofs.Words.{no_word, word_reads}
+use Rattle.text_pieces.specs.Ending.{no_byte}
+use Rattle.text_pieces.specs.Fronts.{Word}
+use Rattle.text_pieces.proofs.Ends.{free_none}
+use Rattle.text_pieces.proofs.Lifts.{lift-image}
+use Rattle.text_pieces.proofs.WordReading.{no_word, word_reads}
 use Rattle.term_text.proofs.clauses.empty_clause.Goals as goal
 
 pub returns-in_err-last : goal.returns-in_err-last

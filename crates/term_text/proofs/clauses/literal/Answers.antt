@@ -2,10 +2,10 @@ use Rattle.std.proofs.Common.{[], refl}
 use Rattle.std.specs.Prelude.{codes}
 use Rattle.std.proofs.lemmas.Result.{err_from_is_err_and}
 use Rattle.text_pieces.specs.Languages.{Cat}
-use Rattle.text_ends.specs.Ending.{is_digit_or_bracket}
-use Rattle.text_ends.specs.Fronts.{Front}
-use Rattle.text_ends.proofs.Lifts.{lift-image, read_next, next_fails, next_unread, last_unread}
-use Rattle.text_ends.proofs.Words.{read_front, front_fails, next-front}
+use Rattle.text_pieces.specs.Ending.{is_digit_or_bracket}
+use Rattle.text_pieces.specs.Fronts.{Front}
+use Rattle.text_pieces.proofs.Lifts.{lift-image, read_next, next_fails, next_unread, last_unread}
+use Rattle.text_pieces.proofs.WordReading.{read_front, front_fails, next-front}
 use Rattle.term_text.proofs.TermFronts.{sure-term}
 use Rattle.term_text.specs.Terms.{SpellsTerm}
 use Rattle.term_text.proofs.ClauseReading.{sure-related}
@@ -60,4 +60,4 @@ returns c =
     let l2 = read_front (codes " ") l1 c.in_ok-word.ensures.ok in
     let l3 = read_next l2 sure-relation (λ r. next-front 32 [] refl sure-term) c.in_ok-relation.ensures in
     let l4 = read_front (codes " ") l3 c.in_ok-at_t.ensures.ok in
-    rw c.related.ensures (l4.reads _ _ c.in_ok-t.ensures)
+    rw c.make_literal.ensures (l4.reads _ _ c.in_ok-t.ensures)

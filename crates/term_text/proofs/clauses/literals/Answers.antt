@@ -1,8 +1,8 @@
 use Rattle.std.proofs.Common.{false, subst, append-nil}
 use Rattle.std.proofs.lemmas.Result.{err_from_is_err_and}
-use Rattle.text_pieces.specs.Languages.{Cat}
-use Rattle.text_ends.specs.Ending.{ReadsTo, no_byte}
-use Rattle.text_ends.proofs.Lifts.{lift-image, read_next, next_unread}
+use Rattle.text_pieces.specs.Languages.{Cat, ReadsTo}
+use Rattle.text_pieces.specs.Ending.{no_byte}
+use Rattle.text_pieces.proofs.Lifts.{lift-image, read_next, next_unread}
 use Rattle.term_text.proofs.ClauseReading.{sure-literal, next-more_literals, literal_read, literal_unread, literals_end, literals_open}
 use Rattle.term_text.specs.Clauses.{SpellsLiteral, MoreLiterals, ClauseParts, clause_of}
 use Rattle.term_text.proofs.clauses.literals.Goals as goal

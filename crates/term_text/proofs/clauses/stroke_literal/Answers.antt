@@ -1,9 +1,9 @@
 use Rattle.std.specs.Prelude.{codes}
 use Rattle.std.proofs.lemmas.Result.{err_from_is_err_and, MatchResult-weaker}
-use Rattle.text_ends.specs.Ending.{is_digit_or_bracket}
-use Rattle.text_ends.specs.Fronts.{Front}
-use Rattle.text_ends.proofs.Lifts.{lift-self, last_unread}
-use Rattle.text_ends.proofs.Words.{read_front, front_fails}
+use Rattle.text_pieces.specs.Ending.{is_digit_or_bracket}
+use Rattle.text_pieces.specs.Fronts.{Front}
+use Rattle.text_pieces.proofs.Lifts.{lift-self, last_unread}
+use Rattle.text_pieces.proofs.WordReading.{read_front, front_fails}
 use Rattle.term_text.proofs.ClauseReading.{sure-literal}
 use Rattle.term_text.specs.Clauses.{SpellsLiteral}
 use Rattle.term_text.proofs.clauses.stroke_literal.Goals as goal

@@ -1,7 +1,7 @@
 use Rattle.std.proofs.Common.{subst, append-nil}
 use Rattle.std.proofs.lemmas.Result.{err_from_is_err_and}
-use Rattle.text_ends.specs.Ending.{ReadsTo, no_byte}
-use Rattle.text_ends.proofs.Ends.{was_read, was_bad}
+use Rattle.text_pieces.specs.Languages.{ReadsTo}
+use Rattle.text_pieces.specs.Ending.{no_byte}
 use Rattle.term_text.proofs.PlaceReading.{step_none, step_read, step_fails, path_end, path_open}
 use Rattle.term_text.specs.Places.{SpellsPath}
 use Rattle.term_text.proofs.places.path.Goals as goal
@@ -12,11 +12,11 @@ loop-behind-init c = rw c.new-steps.ensures (step_none c.args.text.now)
 pub returns-in_err-next : goal.returns-in_err-next
 returns-in_err-next c =
     let p = err_from_is_err_and c.from_residual.result c.from_residual.ensures.1 in
-    rw (p.1, p.2) (step_fails c.loop-behind.steps c.loop-behind.invariant c.in-Some.ensures.some (was_bad c.in_err-next.ensures))
+    rw (p.1, p.2) (step_fails c.loop-behind.steps c.loop-behind.invariant c.in-Some.ensures.some c.in_err-next.ensures)
 
 pub loop-behind-preserved : goal.loop-behind-preserved
 loop-behind-preserved c =
-    let more = step_read c.loop-behind.steps c.loop-behind.invariant c.in-Some.ensures.some (was_read c.in_ok-next.ensures) in
+    let more = step_read c.loop-behind.steps c.loop-behind.invariant c.in-Some.ensures.some c.in_ok-next.ensures in
     let all = c.in_ok-push.ensures.ok in
     rw all more
 

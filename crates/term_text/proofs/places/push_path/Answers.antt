@@ -2,8 +2,8 @@ use Rattle.std.proofs.Common.{drop-cons, refl}
 use Rattle.std.specs.Prelude.{codes}
 use Rattle.std.proofs.lemmas.Result.{MatchResult-weaker}
 use Rattle.text_pieces.specs.Numbers.{Number, Word32}
-use Rattle.text_ends.specs.Fronts.{Front}
-use Rattle.text_ends.proofs.Putting.{put_none, put_at, put_end}
+use Rattle.text_pieces.specs.Fronts.{Front}
+use Rattle.text_pieces.proofs.Putting.{put_none, put_at, put_end}
 use Rattle.text_pieces.proofs.Keeping.{as_it_was, then_added, then_kept, puts_err}
 use Rattle.term_text.proofs.places.push_path.Goals as goal
 

@@ -1,7 +1,7 @@
 use Rattle.std.specs.Prelude.{codes}
 use Rattle.text_pieces.specs.Numbers.{Number, Word32}
-use Rattle.text_ends.specs.Fronts.{Front}
-use Rattle.text_ends.proofs.Putting.{Putting}
+use Rattle.text_pieces.specs.Fronts.{Front}
+use Rattle.text_pieces.proofs.Putting.{Putting}
 use Rattle.text_pieces.specs.Printing.{Keeps}
 use Rattle.term_text.proofs.places.push_path.Given as goal
 

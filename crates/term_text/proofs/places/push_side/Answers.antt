@@ -1,7 +1,7 @@
 use Rattle.std.proofs.Common.{◌++◌, ◌∙◌, ap}
 use Rattle.std.proofs.lemmas.Result.{MatchResult-weaker}
 use Rattle.term_text.specs.Places.{side_word}
-use Rattle.text_ends.proofs.Putting.{adds-as}
+use Rattle.text_pieces.proofs.Putting.{adds-as}
 use Rattle.text_pieces.proofs.Keeping.{as_it_was}
 use Rattle.term_text.proofs.places.push_side.Goals as goal
 

@@ -1,5 +1,5 @@
 use Rattle.std.proofs.Common.{◌++◌, ◌∙◌, ap, subst}
-use Rattle.text_ends.specs.Fronts.{NoFront}
+use Rattle.text_pieces.specs.Fronts.{NoFront}
 use Rattle.term_text.specs.Variables.{SpellsVariable}
 use Rattle.text_pieces.specs.Printing.{Adds}
 use Rattle.term_text.proofs.OwnTexts.{own_here, own_missing}

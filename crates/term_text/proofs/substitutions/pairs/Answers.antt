@@ -1,6 +1,7 @@
 use Rattle.std.proofs.Common.{false, subst, append-nil}
 use Rattle.std.proofs.lemmas.Result.{err_from_is_err_and}
-use Rattle.text_ends.specs.Ending.{ReadsTo, no_byte}
+use Rattle.text_pieces.specs.Languages.{ReadsTo}
+use Rattle.text_pieces.specs.Ending.{no_byte}
 use Rattle.term_text.proofs.SubstReading.{first_pair, first_unread, pair_read, pair_unread, pairs_end, pairs_open}
 use Rattle.term_text.specs.Substitutions.{PairsParts}
 use Rattle.term_text.proofs.substitutions.pairs.Goals as goal

@@ -1,9 +1,9 @@
 use Rattle.std.proofs.Common.{refl}
 use Rattle.std.specs.Prelude.{codes}
 use Rattle.std.proofs.lemmas.Result.{MatchResult-weaker}
-use Rattle.text_ends.specs.Fronts.{Front}
+use Rattle.text_pieces.specs.Fronts.{Front}
 use Rattle.term_text.specs.Substitutions.{SpellsPair}
-use Rattle.text_ends.proofs.Putting.{adds-front, put_none, put_next, put_end}
+use Rattle.text_pieces.proofs.Putting.{adds-front, put_none, put_next, put_end}
 use Rattle.text_pieces.proofs.Keeping.{as_it_was, by_bytes, then_added, then_kept, puts_err}
 use Rattle.term_text.proofs.substitutions.push_pairs.Goals as goal
 

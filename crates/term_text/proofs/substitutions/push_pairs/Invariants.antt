@@ -1,6 +1,6 @@
 use Rattle.std.specs.Prelude.{codes}
-use Rattle.text_ends.specs.Fronts.{Front}
-use Rattle.text_ends.proofs.Putting.{Putting}
+use Rattle.text_pieces.specs.Fronts.{Front}
+use Rattle.text_pieces.proofs.Putting.{Putting}
 use Rattle.term_text.specs.Substitutions.{SpellsPair}
 use Rattle.text_pieces.specs.Printing.{Keeps}
 use Rattle.term_text.proofs.substitutions.push_pairs.Given as goal

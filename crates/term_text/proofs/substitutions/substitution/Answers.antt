@@ -1,11 +1,11 @@
 use Rattle.std.proofs.Common.{true, false, [], ◌∙◌, sym}
 use Rattle.std.specs.Prelude.{codes}
 use Rattle.std.proofs.lemmas.Result.{err_from_is_err_and}
-use Rattle.text_ends.specs.Ending.{no_byte}
-use Rattle.text_ends.specs.Fronts.{Word}
-use Rattle.text_ends.proofs.Ends.{free_none}
-use Rattle.text_ends.proofs.Lifts.{lift-self, lift-then, lift-image, last_unread}
-use Rattle.text_ends.proofs.Words.{read_front, front_fails, no_word, word_reads}
+use Rattle.text_pieces.specs.Ending.{no_byte}
+use Rattle.text_pieces.specs.Fronts.{Word}
+use Rattle.text_pieces.proofs.Ends.{free_none}
+use Rattle.text_pieces.proofs.Lifts.{lift-self, lift-then, lift-image, last_unread}
+use Rattle.text_pieces.proofs.WordReading.{read_front, front_fails, no_word, word_reads}
 use Rattle.term_text.proofs.SubstReading.{pairs_substitution}
 use Rattle.term_text.proofs.SubstFronts.{pairs_at, sure-pairs}
 use Rattle.term_text.specs.Substitutions.{SpellsSubst}

@@ -2,13 +2,13 @@ use Rattle.std.proofs.Common.{ℕ, List, ◌∷◌, ◌∙◌, sym, subst, arith
 use Rattle.std.specs.Prelude.{codes}
 use Rattle.std.proofs.lemmas.Result.{err_from_is_err_and, MatchResult-weaker}
 use Rattle.text_pieces.specs.Decimals.{is_digit}
-use Rattle.text_pieces.specs.Languages.{Cat}
+use Rattle.text_pieces.specs.Languages.{Cat, ReadsTo}
 use Rattle.text_pieces.specs.Numbers.{Number, Word32}
-use Rattle.text_ends.specs.Ending.{ReadsTo, is_digit_or_bracket, no_byte}
-use Rattle.text_ends.specs.Fronts.{Front}
-use Rattle.text_ends.proofs.Ends.{within_none, was_read, was_bad, free_none, followed_fails, read_on}
-use Rattle.text_ends.proofs.Lifts.{lift-image, read_next, next_fails, next_unread, last_unread, unread_within}
-use Rattle.text_ends.proofs.Words.{read_front, front_fails, no_word, word_reads}
+use Rattle.text_pieces.specs.Ending.{is_digit_or_bracket, no_byte}
+use Rattle.text_pieces.specs.Fronts.{Front}
+use Rattle.text_pieces.proofs.Ends.{within_none, free_none, followed_fails, read_on}
+use Rattle.text_pieces.proofs.Lifts.{lift-image, read_next, next_fails, next_unread, last_unread, unread_within}
+use Rattle.text_pieces.proofs.WordReading.{read_front, front_fails, no_word, word_reads}
 use Rattle.term_text.proofs.VariableFronts.{sure-word32}
 use Rattle.term_text.proofs.TermFronts.{sure-term, sure-sign, next-behind_first, next-second, sure-in_brackets, next-arguments, one_front-bracket, sure-listed, next-word_bracket, sure-symbol, sure-signed_second, sure-closed, sure-listed_parts, next-listed}
 use Rattle.term_text.proofs.TermReading.{term_at, as_arguments, no_arguments, argument_unread, argument_read, arguments_open, arguments_end, read_less, front_less}
@@ -48,13 +48,13 @@ bracket-returns-in_err-t t c =
     let p = err_from_is_err_and c.from_residual.result c.from_residual.ensures.1 in
     rw (p.1, p.2) (unread_within no_byte is_digit_or_bracket (TermParts SpellsTerm kind.Bracket) c.args.text.now (within_none is_digit_or_bracket) c.in_err-t.field-0.0 c.in_err-t.ensures)
 
-pub bracket-returns-in_err-ended : goal.bracket-returns-in_err-ended
-bracket-returns-in_err-ended t c =
-    let p = err_from_is_err_and c.from_residual-in_err-ended.result c.from_residual-in_err-ended.ensures.1 in
-    rw (p.1, p.2) (followed_fails (within_none is_digit_or_bracket) one_front-bracket c.in_ok-t.ensures c.in_err-ended.ensures.err)
+pub bracket-returns-in_err-check_end : goal.bracket-returns-in_err-check_end
+bracket-returns-in_err-check_end t c =
+    let p = err_from_is_err_and c.from_residual-in_err-check_end.result c.from_residual-in_err-check_end.ensures.1 in
+    rw (p.1, p.2) (followed_fails (within_none is_digit_or_bracket) one_front-bracket c.in_ok-t.ensures c.in_err-check_end.ensures.err)
 
 pub bracket-returns : goal.bracket-returns
-bracket-returns t c = read_on c.in_ok-t.ensures c.in_ok-ended.ensures.ok
+bracket-returns t c = read_on c.in_ok-t.ensures c.in_ok-check_end.ensures.ok
 
 pub in_brackets-returns-in_err-inner : goal.in_brackets-returns-in_err-inner
 in_brackets-returns-in_err-inner t c =
@@ -142,13 +142,13 @@ symbol-returns-in_err-f t c =
     let l0 = lift-image is_digit_or_bracket (λ (p : ℕ × List Term). term.App p.0 p.1) (Front (codes "s") (Cat (Number Word32) (λ f. Arguments SpellsTerm))) c.args.text.now in
     let l1 = read_front (codes "s") l0 c.in_ok-number.ensures.ok in
     let p = err_from_is_err_and c.from_residual-in_err-f.result c.from_residual-in_err-f.ensures.1 in
-    rw (p.1, p.2) (next_fails l1 (λ f. next-arguments) (was_bad c.in_err-f.ensures))
+    rw (p.1, p.2) (next_fails l1 (λ f. next-arguments) c.in_err-f.ensures)
 
 pub symbol-returns-in_err-all : goal.symbol-returns-in_err-all
 symbol-returns-in_err-all t c =
     let l0 = lift-image is_digit_or_bracket (λ (p : ℕ × List Term). term.App p.0 p.1) (Front (codes "s") (Cat (Number Word32) (λ f. Arguments SpellsTerm))) c.args.text.now in
     let l1 = read_front (codes "s") l0 c.in_ok-number.ensures.ok in
-    let l2 = read_next l1 sure-word32 (λ f. next-arguments) (was_read c.in_ok-f.ensures) in
+    let l2 = read_next l1 sure-word32 (λ f. next-arguments) c.in_ok-f.ensures in
     let p = err_from_is_err_and c.from_residual-in_err-all.result c.from_residual-in_err-all.ensures.1 in
     rw (p.1, p.2) (last_unread l2 c.in_err-all.field-0.0 c.in_err-all.ensures)
 
@@ -156,7 +156,7 @@ pub symbol-returns : goal.symbol-returns
 symbol-returns t c =
     let l0 = lift-image is_digit_or_bracket (λ (p : ℕ × List Term). term.App p.0 p.1) (Front (codes "s") (Cat (Number Word32) (λ f. Arguments SpellsTerm))) c.args.text.now in
     let l1 = read_front (codes "s") l0 c.in_ok-number.ensures.ok in
-    let l2 = read_next l1 sure-word32 (λ f. next-arguments) (was_read c.in_ok-f.ensures) in
+    let l2 = read_next l1 sure-word32 (λ f. next-arguments) c.in_ok-f.ensures in
     l2.reads _ _ c.in_ok-all.ensures
 
 pub arguments-returns-then-not-begins_with : goal.arguments-returns-then-not-begins_with
@@ -168,16 +168,16 @@ arguments-returns-in_err-all t c =
     let p = err_from_is_err_and c.from_residual.result c.from_residual.ensures.1 in
     rw (p.1, p.2) (last_unread l0 c.in_err-all.field-0.0 (unread_within no_byte is_digit_or_bracket (ListedArguments SpellsTerm) c.args.text.now (within_none is_digit_or_bracket) c.in_err-all.field-0.0 c.in_err-all.ensures))
 
-pub arguments-returns-in_err-ended : goal.arguments-returns-in_err-ended
-arguments-returns-in_err-ended t c =
+pub arguments-returns-in_err-check_end : goal.arguments-returns-in_err-check_end
+arguments-returns-in_err-check_end t c =
     let l0 = as_arguments c.args.text.now (sym c.begins_with.ensures ∙ c.if-not-begins_with.false) in
-    let p = err_from_is_err_and c.from_residual-in_err-ended.result c.from_residual-in_err-ended.ensures.1 in
-    rw (p.1, p.2) (l0.fails _ (followed_fails (within_none is_digit_or_bracket) sure-listed.one c.in_ok-all.ensures c.in_err-ended.ensures.err))
+    let p = err_from_is_err_and c.from_residual-in_err-check_end.result c.from_residual-in_err-check_end.ensures.1 in
+    rw (p.1, p.2) (l0.fails _ (followed_fails (within_none is_digit_or_bracket) sure-listed.one c.in_ok-all.ensures c.in_err-check_end.ensures.err))
 
 pub arguments-returns : goal.arguments-returns
 arguments-returns t c =
     let l0 = as_arguments c.args.text.now (sym c.begins_with.ensures ∙ c.if-not-begins_with.false) in
-    l0.reads _ _ (read_on c.in_ok-all.ensures c.in_ok-ended.ensures.ok)
+    l0.reads _ _ (read_on c.in_ok-all.ensures c.in_ok-check_end.ensures.ok)
 
 pub listed-returns-in_err-inner : goal.listed-returns-in_err-inner
 listed-returns-in_err-inner t c =

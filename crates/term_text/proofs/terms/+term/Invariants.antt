@@ -1,6 +1,6 @@
 use Rattle.std.proofs.Common.{◌+◌, ◌*◌, ◌<◌, ◌++◌, length}
-use Rattle.text_ends.specs.Ending.{no_byte}
-use Rattle.text_ends.proofs.Lifts.{Lift}
+use Rattle.text_pieces.specs.Ending.{no_byte}
+use Rattle.text_pieces.proofs.Lifts.{Lift}
 use Rattle.term_text.specs.Terms.{SpellsTerm, ListedArguments, MoreArguments}
 use Rattle.term_text.proofs.terms.+term.Given as goal
 

@@ -1,10 +1,9 @@
 use Rattle.std.proofs.Common.{subst}
 use Rattle.std.specs.Prelude.{codes}
 use Rattle.std.proofs.lemmas.Result.{err_from_is_err_and}
-use Rattle.text_pieces.specs.Decimals.{is_digit}
 use Rattle.text_pieces.specs.Numbers.{Number, Within}
-use Rattle.text_ends.specs.Ending.{ReadsTo, FailsTo}
-use Rattle.text_ends.specs.Fronts.{Front}
+use Rattle.text_pieces.specs.Fronts.{Front}
+use Rattle.text_pieces.specs.Languages.{Fails, Reads}
 use Rattle.term_text.proofs.VariableWindows.{integer_in, no_integer, is_integer}
 use Rattle.term_text.proofs.variables.integer_from.Goals as goal
 
@@ -15,10 +14,10 @@ pub returns-in_err-id : goal.returns-in_err-id
 returns-in_err-id c =
     let l0 = integer_in c.args.low c.args.text.now c.requires.kind in
     let p = err_from_is_err_and c.from_residual.result c.from_residual.ensures.1 in
-    rw (p.1, p.2) (l0.fails _ (subst (λ z. FailsTo is_digit (Front (codes "N") (Number (Within z 4294967295))) c.args.text.now c.in_err-id.field-0.0.left) c.saturating_sub.ensures c.in_err-id.ensures))
+    rw (p.1, p.2) (l0.fails _ (subst (λ z. Fails (Front (codes "N") (Number (Within z 4294967295))) c.args.text.now c.in_err-id.field-0.0.left) c.saturating_sub.ensures c.in_err-id.ensures))
 
 pub returns : goal.returns
 returns c =
     let l0 = integer_in c.args.low c.args.text.now c.requires.kind in
     let e = c.ordinary.ensures in
-    rw (is_integer c.ordinary.result c.in_ok-id.id e.kind e.sort e.id) (l0.reads _ _ (subst (λ z. ReadsTo is_digit (Front (codes "N") (Number (Within z 4294967295))) c.args.text.now c.in_ok-id.id c.in_ok-id.rest.now) c.saturating_sub.ensures c.in_ok-id.ensures))
+    rw (is_integer c.ordinary.result c.in_ok-id.id e.kind e.sort e.id) (l0.reads _ _ (subst (λ z. Reads (Front (codes "N") (Number (Within z 4294967295))) c.args.text.now c.in_ok-id.id c.in_ok-id.rest.now) c.saturating_sub.ensures c.in_ok-id.ensures))

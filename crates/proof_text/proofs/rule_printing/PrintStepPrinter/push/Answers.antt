@@ -1,7 +1,7 @@
 use Rattle.std.proofs.Common.{◌++◌, ◌∙◌, ap, arith, rules, ◌<◌}
 use Rattle.std.proofs.lemmas.Result.{MatchResult-weaker}
 use Rattle.text_pieces.specs.Decimals.{decimal}
-use Rattle.text_ends.proofs.Putting.{adds-word32}
+use Rattle.text_pieces.proofs.Putting.{adds-word32}
 use Rattle.text_pieces.proofs.Keeping.{as_it_was}
 use Rattle.proof_text.proofs.rule_printing.PrintStepPrinter.push.Goals as goal
 

@@ -1,4 +1,0 @@
-pub mod Ending
-pub mod Fronts
-pub mod Kinds
-pub mod Runs
