@@ -2,6 +2,11 @@ pub mod AdmitLemmas
 pub mod AnswerLemmas
 pub mod ConditionLemmas
 pub mod GeneralLemmas
+pub mod InstanceLemmas
+pub mod ListedCandidates
+pub mod ListedLists
+pub mod ListedNumbers
+pub mod ListedPaths
 pub mod LiteralLemmas
 pub mod OccurrenceLemmas
 pub mod OptionLemmas

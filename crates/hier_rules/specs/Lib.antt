@@ -4,6 +4,10 @@ pub mod Conclusions
 pub mod CountedPlaces
 pub mod Fires
 pub mod Heads
+pub mod Listed
 pub mod Occurrences
 pub mod Premises
+pub mod RedundantBy
 pub mod Rules
+pub mod SameCandidateLemmas
+pub mod SameCandidates

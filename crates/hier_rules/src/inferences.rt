@@ -1,10 +1,11 @@
 //! Candidates, and what fires for them.
 
-ghost use Rattle.std.specs.Prelude.{◌≡◌, IfOk};
+ghost use Rattle.std.specs.Prelude.{◌≡◌, ◌↔◌, IsTrue, IfOk, slice_get};
+ghost use Rattle.hier_rules.specs.SameCandidates as spec;
 
 use query_board::Stamp;
 use std::alloc::{AllocError, Global};
-use term_base::{Clause, Place, Side, Subst, Term};
+use term_base::{Clause, Path, Place, Side, Subst, Term};
 
 /// Where a rule may apply. Literals are named by their numbers in their clause, from 0.
 #[derive(Debug, Drop)]
@@ -105,4 +106,96 @@ impl Candidate {
             }),
         }
     }
+
+    /// The stamp of the premise with this number, counted from 0 in the rule's order. None past the last.
+    pub fn premise(&self, number: usize) -> Option<Stamp>
+        ensures { result ≡ slice_get (spec.premises self.now) number }
+    {
+        match (self, number) {
+            (Candidate::Superpose { from, .. }, 0) => Some(*from),
+            (Candidate::Superpose { into, .. }, 1) => Some(*into),
+            (Candidate::Resolve { of, .. }, 0) => Some(*of),
+            (Candidate::Factor { of, .. }, 0) => Some(*of),
+            (Candidate::Define { of, .. }, 0) => Some(*of),
+            _ => None,
+        }
+    }
+
+    /// Whether two candidates are equal.
+    pub fn same(&self, other: &Candidate) -> bool
+        ensures test { result ≡ spec.same_candidate self.now other.now }
+        ensures exactly { IsTrue result ↔ (self.now ≡ other.now) }
+    {
+        same_candidate(self, other)
+    }
+}
+
+/// Whether two candidates are equal, by the test.
+fn same_candidate(candidate: &Candidate, other: &Candidate) -> bool
+    ensures { result ≡ spec.same_candidate candidate.now other.now }
+{
+    match (candidate, other) {
+        (
+            Candidate::Superpose {
+                from,
+                literal,
+                side,
+                into,
+                place,
+            },
+            Candidate::Superpose {
+                from: f,
+                literal: l,
+                side: s,
+                into: i,
+                place: p,
+            },
+        ) => from.same(*f)
+            && *literal == *l
+            && *side == *s
+            && into.same(*i)
+            && same_place(place, p),
+        (Candidate::Resolve { of, literal }, Candidate::Resolve { of: f, literal: l }) => {
+            of.same(*f) && *literal == *l
+        }
+        (
+            Candidate::Factor {
+                of,
+                first,
+                first_side,
+                second,
+                second_side,
+            },
+            Candidate::Factor {
+                of: f,
+                first: l,
+                first_side: s,
+                second: m,
+                second_side: t,
+            },
+        ) => of.same(*f)
+            && *first == *l
+            && *first_side == *s
+            && *second == *m
+            && *second_side == *t,
+        (Candidate::Define { of, term }, Candidate::Define { of: f, term: t }) => of.same(*f)
+            && term == t,
+        _ => false,
+    }
+}
+
+/// Whether two paths are equal, by the test.
+fn same_path(path: &Path, other: &Path) -> bool
+    ensures { result ≡ spec.same_path path.now other.now }
+{
+    path.same(other)
+}
+
+/// Whether two places are equal, by the test.
+fn same_place(place: &Place, other: &Place) -> bool
+    ensures { result ≡ spec.same_place place.now other.now }
+{
+    place.literal == other.literal
+        && place.side == other.side
+        && same_path(&place.path, &other.path)
 }

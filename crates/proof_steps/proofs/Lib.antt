@@ -2,6 +2,8 @@ pub mod Abstractions
 pub mod AbstractionsBack
 pub mod Arguments
 pub mod Closings
+pub mod Cutting
 pub mod EarlierSteps
+pub mod Renumbering
 pub mod Replays
 pub mod Rows

@@ -5,6 +5,7 @@ mod closing;
 mod copying;
 mod defining;
 pub mod laws;
+pub mod numbering_laws;
 mod premises;
 mod replaying;
 mod rules;

@@ -1,1 +1,3 @@
 pub mod Queries
+pub mod StampLemmas
+pub mod Stamps

@@ -6,3 +6,4 @@ pub mod Rows
 pub mod Shorter
 pub mod Single
 pub mod Written
+pub mod WrittenImages

@@ -9,6 +9,7 @@ mod literals;
 mod parts;
 mod simplifying;
 mod symbols;
+pub mod writing_laws;
 
 pub use abstractions::is_abstraction;
 pub use inferences::{factored, resolved, superposed};
