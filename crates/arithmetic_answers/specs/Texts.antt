@@ -8,7 +8,7 @@ use Rattle.lin_base.specs.declared.wides.Op.TheVariants.{Add, Mul}
 use Rattle.judge_base.specs.declared.verdicts.Why.{Why}
 use Rattle.judge_base.specs.declared.verdicts.Why.TheVariants as why
 use Rattle.text_pieces.specs.Decimals.{decimal, signed_decimal}
-use Rattle.clause_text.specs.Text.{clause_text}
+use Rattle.term_text.specs.Texts.{clause_text}
 use Rattle.cert_text.specs.Spelled.{is_spelled}
 use Rattle.proof_text.specs.Derivations.{Spells, variables_word}
 use Rattle.arithmetic_answers.specs.declared.deciding.Decision.{Decision}

@@ -46,12 +46,7 @@ fn first_empty(clauses: &[Clause]) -> Option<u64>
 }
 
 // What the judge says of the pool.
-fn judged(
-    alloc: Global,
-    pool: Pool,
-    judge: &mut dyn Judge,
-    limit: u64,
-) -> Result<Decision, AllocError>
+fn judged(pool: Pool, judge: &mut dyn Judge, limit: u64) -> Result<Decision, AllocError>
     requires { IsTrue (is_pool pool) }
     ensures verdict { IfOk result (IsVerdict pool limit) }
     ensures asked { IfOk result (λ d. numbers judge.new ≡ numbers judge.old ++ spec.queries_of d) }
@@ -59,7 +54,7 @@ fn judged(
         ⊎ (numbers judge.new ≡ numbers judge.old ++ 0 ∷ [])) }
 {
     let query = Query { number: 0, pool };
-    match judge.judge(alloc, &query, limit)? {
+    match judge.judge(&query, limit)? {
         Verdict::Unsat(cert) => Ok(Decision::Refuted(cert)),
         Verdict::Sat(values) => Ok(Decision::Satisfied(values)),
         Verdict::Unknown(why) => Ok(Decision::Unknown(why)),
@@ -88,7 +83,7 @@ pub fn decide(
         return Ok(Decision::EmptyClause(number));
     }
     match view(alloc, signature, clauses) {
-        Ok(viewed) => judged(alloc, viewed.pool, judge, limit),
+        Ok(viewed) => judged(viewed.pool, judge, limit),
         Err(ViewError::Wide(at)) => Ok(Decision::TooWide(at)),
         Err(ViewError::Memory) => Err(AllocError),
     }

@@ -6,8 +6,6 @@ mod derivations;
 mod laws;
 mod lines;
 mod lists;
-#[cfg(test)]
-mod tests;
 mod texts;
 
 pub use deciding::{Decision, decide};

@@ -5,9 +5,9 @@ ghost use Rattle.std.specs.Prelude.{◌≡◌, ◌++◌, OnOk, IfOk};
 ghost use Rattle.proof_text.specs.Derivations.{variables_word};
 ghost use Rattle.arithmetic_answers.specs.Texts as spec;
 
-use clause_text::push_clause;
 use std::alloc::{AllocError, Global};
 use term_base::Clause;
+use term_text::push_clause_line;
 use text_pieces::{push, push_blank_signed, push_decimal};
 
 // The word for the variables of clauses with a foreground symbol.
@@ -33,8 +33,7 @@ fn push_item(
 {
     push_decimal(alloc, text, u128::from(number))?;
     push(text, b" : ")?;
-    push_clause(alloc, text, clause)?;
-    push(text, b"\n")
+    push_clause_line(alloc, text, clause)
 }
 
 // Puts the clauses with their numbers behind the text.

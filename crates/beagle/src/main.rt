@@ -14,9 +14,6 @@ use std::io::ErrorKind;
 use std::process::ExitCode;
 use std::rt::Env;
 
-#[cfg(test)]
-mod tests;
-
 /// How many judges the program has.
 const JUDGES: usize = 8;
 

@@ -2,7 +2,7 @@
 use Rattle.std.proofs.Common.{◌≡◌, ◌∙◌, ℕ, List, [], ◌∷◌, length, sym, subst, inl, inr, arith}
 use Rattle.std.specs.Prelude.{is_some}
 use Rattle.std.proofs.lemmas.Bool.{false≢true}
-use Rattle.command_line.specs.declared.options.Options.{Options}
+use Rattle.options.specs.declared.asked.Options.{Options}
 use Rattle.formula_base.specs.declared.problems.Problem.{Problem}
 use Rattle.tff_reader.specs.declared.refusals.Refused.{Refused}
 use Rattle.tff_reader.specs.Answer.{IsProblem, IsRefused}

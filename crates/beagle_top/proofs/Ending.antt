@@ -8,9 +8,9 @@ use Rattle.term_base.specs.declared.symbols.Symbol.{Symbol}
 use Rattle.term_base.specs.declared.preparation.Prepared.{Prepared}
 use Rattle.term_base.specs.Lits.{lits}
 use Rattle.term_base.specs.Clauses.{is_well_sorted, is_background}
-use Rattle.command_line.specs.declared.options.Options.{Options}
-use Rattle.command_line.specs.declared.options.Mode.{Mode}
-use Rattle.command_line.specs.declared.options.Mode.TheVariants.{Prove, Check}
+use Rattle.options.specs.declared.asked.Options.{Options}
+use Rattle.options.specs.declared.asked.Mode.{Mode}
+use Rattle.options.specs.declared.asked.Mode.TheVariants.{Prove, Check}
 use Rattle.tff_reader.specs.Answer.{IsProblem}
 use Rattle.formula_base.specs.declared.problems.Problem.{Problem}
 use Rattle.normal_form.specs.Clauses.{count_of, max_clauses, prepared}

@@ -2,9 +2,9 @@
 use Rattle.std.proofs.Common.{◌≡◌, ◌≤◌, ◌∙◌, ℕ, Bool, true, false, List, ◌++◌, length, refl, sym, subst, inl, inr, arith}
 use Rattle.std.specs.Prelude.{◌⊎◌, is_some, Option, Some}
 use Rattle.term_base.specs.declared.preparation.Prepared.{Prepared}
-use Rattle.command_line.specs.declared.options.Options.{Options}
-use Rattle.command_line.specs.declared.options.Mode.{Mode}
-use Rattle.command_line.specs.declared.options.Mode.TheVariants.{Prove}
+use Rattle.options.specs.declared.asked.Options.{Options}
+use Rattle.options.specs.declared.asked.Mode.{Mode}
+use Rattle.options.specs.declared.asked.Mode.TheVariants.{Prove}
 use Rattle.cert_tree.specs.declared.certs.Cert.{Cert}
 use Rattle.formula_base.specs.declared.problems.Problem.{Problem}
 use Rattle.formula_base.specs.Typing.{IsWellTyped}

@@ -1,6 +1,6 @@
 -- A refusal asks nothing.
 use Rattle.std.proofs.Common.{◌≡◌, ◌≢◌, ◌⊎◌, ◌∙◌, ℕ, List, [], ◌++◌, sym, ap, subst, inl, inr, append-nil, arith}
-use Rattle.command_line.specs.declared.options.Options.{Options}
+use Rattle.options.specs.declared.asked.Options.{Options}
 use Rattle.formula_base.specs.declared.problems.Problem.{Problem}
 use Rattle.arithmetic_answers.specs.declared.deciding.Decision.{Decision}
 use Rattle.arithmetic_answers.specs.declared.deciding.Decision.TheVariants.{EmptyClause, TooWide, Refuted, Satisfied, Unknown}

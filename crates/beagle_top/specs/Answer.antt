@@ -8,9 +8,11 @@ use Rattle.term_base.specs.Lits.{lits}
 use Rattle.term_base.specs.Clauses.{is_background}
 use Rattle.cert_tree.specs.Measures.{bulk, span, depth}
 use Rattle.judge_base.specs.Verdicts.{max_depth}
-use Rattle.command_line.specs.declared.options.Options.{Options}
-use Rattle.command_line.specs.declared.options.Mode.{Mode}
-use Rattle.command_line.specs.declared.options.Mode.TheVariants.{Prove, Check, Make}
+use Rattle.options.specs.Asked.{default_options}
+use Rattle.options.specs.declared.limits.TheConstants.{INPUT_LIMIT}
+use Rattle.options.specs.declared.asked.Options.{Options}
+use Rattle.options.specs.declared.asked.Mode.{Mode}
+use Rattle.options.specs.declared.asked.Mode.TheVariants.{Prove, Check, Make}
 use Rattle.tff_reader.specs.declared.refusals.Refused.{Refused}
 use Rattle.tff_reader.specs.Answer.{IsProblem, IsRefused}
 use Rattle.formula_base.specs.declared.problems.Problem.{Problem}
@@ -27,7 +29,7 @@ use Rattle.beagle_top.specs.Texts.{too_long, not_built, refused, too_many, found
 
 -- the most bytes that a problem may have
 abbrev pub input_limit : ℕ
-input_limit = 16777216
+input_limit = INPUT_LIMIT
 
 -- ---- the clauses of a problem
 abbrev pub clauses_of : Problem → Bool → List Clause
@@ -115,7 +117,7 @@ IsDueFor o = IsDueIn o.mode o
 
 -- the options of a check for which no words were given: the defaults, and what it does
 abbrev pub check_options : Options
-check_options = record { workers = 2; turns = 5000; judge_steps = 200000; ordinary = false; mode = Check }
+check_options = default_options Check
 
 -- ---- problems that are decided
 -- The bytes are a problem of background clauses whose pool is formed within the range, and the three measures of this pool are within

@@ -1,7 +1,7 @@
 -- Answers, with what was asked for them.
 use Rattle.std.specs.Prelude.{◌≡◌, ℕ, Bool, List, ◌++◌}
 use Rattle.term_base.specs.declared.clauses.Clause.{Clause}
-use Rattle.command_line.specs.declared.options.Options.{Options}
+use Rattle.options.specs.declared.asked.Options.{Options}
 use Rattle.arithmetic_answers.specs.declared.deciding.Decision.{Decision}
 use Rattle.arithmetic_answers.specs.Decisions.{Decides, queries_of}
 use Rattle.arithmetic_answers.specs.Texts.{Tells}

@@ -1,7 +1,7 @@
 -- What an answer says of the problem that was read.
 use Rattle.std.specs.Prelude.{◌≡◌, ◌≤◌, ℕ, ℤ, true, List, [], ◌++◌, length, Option}
 use Rattle.std.specs.Io.KnownBytes.{Appends}
-use Rattle.command_line.specs.declared.options.Options.{Options}
+use Rattle.options.specs.declared.asked.Options.{Options}
 use Rattle.formula_base.specs.declared.problems.Problem.{Problem}
 use Rattle.tff_reader.specs.Answer.{IsProblem}
 use Rattle.normal_form.specs.Clauses.{count_of, max_clauses, prepared}

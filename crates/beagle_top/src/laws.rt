@@ -1,7 +1,7 @@
 //! What the definition of answers implies.
 
 ghost use Rattle.std.specs.Prelude.{◌≡◌, ◌≤◌, ◌↔◌, ℕ, [], ◌∷◌, ◌++◌, List, length};
-ghost use Rattle.command_line.specs.declared.options.Options.{Options};
+ghost use Rattle.options.specs.declared.asked.Options.{Options};
 ghost use Rattle.formula_base.specs.declared.problems.Problem.{Problem};
 ghost use Rattle.bg_view.specs.declared.viewing.WideAt.{WideAt};
 ghost use Rattle.arithmetic_answers.specs.Decisions.{HasWide};

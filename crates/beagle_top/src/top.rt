@@ -3,7 +3,7 @@
 ghost use Rattle.std.specs.Prelude.{◌≡◌, ◌≢◌, ◌⊎◌, ◌↔◌, ◌<◌, ◌≤◌, [], drop, length, map, string_bytes, false, true, IfSome, Some, None};
 ghost use Rattle.byte_ends.specs.Faults.{Rose};
 ghost use Rattle.command_line.specs.Command.{is_usage, options_of};
-ghost use Rattle.command_line.specs.declared.options.Mode.TheVariants.{Prove, Check};
+ghost use Rattle.options.specs.declared.asked.Mode.TheVariants.{Prove, Check};
 ghost use Rattle.beagle_top.specs.Answer.{Checks, Ends, EndsBy, IsDecidable, IsDecided, IsDueFor, IsSilent, IsStatus, IsCheckStatus, Proves, check_options, input_limit, is_make};
 ghost use Rattle.beagle_top.specs.Meaning.{IsCheckable, IsVerified, WrittenChecks};
 ghost use Rattle.beagle_top.specs.Asking.{MayAsk, MayAskFirst, first_of};
@@ -14,8 +14,10 @@ use crate::laws::{decidable_is_decided, printed_checks, verified_where_proved};
 use crate::statuses::{MEMORY, READ_FAULT, REFUSED, USAGE, WRITE_FAULT};
 use crate::texts::{NOT_BUILT, TOO_LONG, USAGE_LINE};
 use byte_ends::{ReadEnd, Sink, Source, put_all, read_all};
-use command_line::{Mode, Options, WordsFault, options_of};
+use command_line::{WordsFault, options_of};
 use judge_base::Judge;
+use options::limits::INPUT_LIMIT;
+use options::{Mode, Options, default_options};
 use std::alloc::Global;
 
 /// How a run ended.
@@ -28,9 +30,6 @@ pub struct Ended {
     /// The judges that the run was given as a list, in their order.
     pub judges: Vec<Box<dyn Judge + Send>>,
 }
-
-/// The most bytes that are read.
-pub const INPUT_LIMIT: u64 = 16_777_216;
 
 // Writes the text that goes with a status.
 fn written<K: Sink>(sink: &mut K, status: u8, text: &[u8]) -> u8
@@ -137,15 +136,6 @@ fn checked<S: Source, K: Sink>(alloc: Global, source: &mut S, sink: &mut K) -> u
     }
 }
 
-/// The options of a check for which no words were given.
-const CHECK_OPTIONS: Options = Options {
-    workers: 2,
-    turns: 5000,
-    judge_steps: 200_000,
-    ordinary: false,
-    mode: Mode::Check,
-};
-
 /// Reads a problem and behind it what the program has written for it from the source, checks this without search, and writes what it
 /// finds to the sink. The options of the end are the defaults, with the mode of a check, and it has no judges.
 ///
@@ -183,7 +173,7 @@ pub fn check_bytes<S: Source, K: Sink>(alloc: Global, source: &mut S, sink: &mut
     verified_where_proved();
     Ended {
         status: checked(alloc, source, sink),
-        options: Some(CHECK_OPTIONS),
+        options: Some(default_options(Mode::Check)),
         judges: Vec::new(alloc),
     }
 }

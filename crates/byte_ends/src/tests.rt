@@ -1,3 +1,5 @@
+//! Sources and sinks that fail, and what is left after it.
+
 use super::*;
 use std::io;
 use std::io::{Read, Write};

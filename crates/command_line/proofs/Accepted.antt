@@ -26,6 +26,7 @@ use Rattle.clap.specs.declared.parser.matches.MatchedArg.{MatchedArg}
 use Rattle.clap.proofs.CallerLemmas.{entry_by_id}
 use Rattle.clap.proofs.ValueTestLemmas.{Accepts-accepts}
 use Rattle.clap.proofs.WalkLemmas.{both, one_text-rows}
+use Rattle.options.specs.declared.limits.TheConstants.{LAST_MADE, MAX_JUDGE_STEPS, MAX_TURNS, MAX_WORKERS}
 use Rattle.command_line.specs.Command.{command, rules}
 use Rattle.command_line.specs.Matches.{AreRead, has_number}
 
@@ -195,12 +196,12 @@ other e = cc
 
 pub all_read : (c : Command) (m : ArgMatches) → app_of c ≡ command → IsParsedFrom c m → AreRead (rows_of (found_of m))
 all_read c m e p = record {
-  workers = number_passes c m e p (codes "workers") 1 8 ((λ h. refl), (other, (other, (other, (other, (other, tt))))))
+  workers = number_passes c m e p (codes "workers") 1 MAX_WORKERS ((λ h. refl), (other, (other, (other, (other, (other, tt))))))
       (record { help = refl; version = refl }) (λ empty. cc);
-  turns = number_passes c m e p (codes "turns") 1 1000000 (other, ((λ h. refl), (other, (other, (other, (other, tt))))))
+  turns = number_passes c m e p (codes "turns") 1 MAX_TURNS (other, ((λ h. refl), (other, (other, (other, (other, tt))))))
       (record { help = refl; version = refl }) (λ empty. cc);
-  judge_steps = number_passes c m e p (codes "judge-steps") 1 4294967296 (other, (other, ((λ h. refl), (other, (other, (other, tt))))))
+  judge_steps = number_passes c m e p (codes "judge-steps") 1 MAX_JUDGE_STEPS (other, (other, ((λ h. refl), (other, (other, (other, tt))))))
       (record { help = refl; version = refl }) (λ empty. cc);
-  make = number_passes c m e p (codes "make") 0 4294967295 (other, (other, (other, (other, (other, ((λ h. refl), tt))))))
+  make = number_passes c m e p (codes "make") 0 LAST_MADE (other, (other, (other, (other, (other, ((λ h. refl), tt))))))
       (record { help = refl; version = refl }) (λ empty. cc);
 }

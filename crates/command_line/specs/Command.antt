@@ -1,5 +1,5 @@
 -- The command and its six arguments, in the words of the library that reads them.
-use Rattle.std.specs.Prelude.{ℕ, ◌≤◌, nat_eq, Bool, true, false, not, ◌&&◌, ◌||◌, List, [], ◌∷◌, codes, Option, Some, is_some, option_map, unwrap_or, if◌then◌else◌}
+use Rattle.std.specs.Prelude.{ℕ, nat_eq, Bool, true, false, not, ◌&&◌, ◌||◌, List, [], ◌∷◌, codes, Option, Some, is_some, option_map, unwrap_or, if◌then◌else◌}
 use Rattle.std.specs.Option.{option_map_or}
 use Rattle.std.specs.Str.{bytes_eq}
 use Rattle.std.specs.Str.Parse.{digits_value, without_leading_plus}
@@ -8,9 +8,10 @@ use Rattle.clap.specs.Simple.{App, matches_of, new_rule, new_shape}
 use Rattle.clap.specs.Faults.{fault_of}
 use Rattle.clap.specs.declared.builder.action.ArgAction.TheVariants.{Set, SetTrue}
 use Rattle.clap.specs.declared.builder.value_parser.ValueParser.TheVariants as parser
-use Rattle.command_line.specs.declared.options.Mode.{Mode}
-use Rattle.command_line.specs.declared.options.Mode.TheVariants.{Prove, Check, Make}
-use Rattle.command_line.specs.declared.options.Options.{Options}
+use Rattle.options.specs.declared.asked.Mode.{Mode}
+use Rattle.options.specs.declared.asked.Mode.TheVariants.{Prove, Check, Make}
+use Rattle.options.specs.declared.asked.Options.{Options}
+use Rattle.options.specs.declared.limits.TheConstants.{DEFAULT_JUDGE_STEPS, DEFAULT_TURNS, DEFAULT_WORKERS, LAST_MADE, MAX_JUDGE_STEPS, MAX_TURNS, MAX_WORKERS}
 
 -- ---- the command
 -- an option that takes one whole number from low to high
@@ -24,8 +25,9 @@ flag_rule name = record (new_rule name) { long = Some name; action = Some SetTru
 -- the six arguments
 abbrev pub rules : List Rule
 rules =
-    number_rule (codes "workers") 1 8 ∷ number_rule (codes "turns") 1 1000000 ∷ number_rule (codes "judge-steps") 1 4294967296
-    ∷ flag_rule (codes "ordinary") ∷ flag_rule (codes "check") ∷ number_rule (codes "make") 0 4294967295 ∷ []
+    number_rule (codes "workers") 1 MAX_WORKERS ∷ number_rule (codes "turns") 1 MAX_TURNS
+    ∷ number_rule (codes "judge-steps") 1 MAX_JUDGE_STEPS ∷ flag_rule (codes "ordinary") ∷ flag_rule (codes "check")
+    ∷ number_rule (codes "make") 0 LAST_MADE ∷ []
 
 -- the command, whose words don't begin with its name
 abbrev pub command : App
@@ -55,9 +57,9 @@ mode_of rows = if is_set (codes "check") rows then Check else option_map_or Make
 -- the options of a run
 abbrev pub options_in : List Row → Options
 options_in rows = record {
-  workers = number_or 2 (codes "workers") rows;
-  turns = number_or 5000 (codes "turns") rows;
-  judge_steps = number_or 200000 (codes "judge-steps") rows;
+  workers = number_or DEFAULT_WORKERS (codes "workers") rows;
+  turns = number_or DEFAULT_TURNS (codes "turns") rows;
+  judge_steps = number_or DEFAULT_JUDGE_STEPS (codes "judge-steps") rows;
   ordinary = is_set (codes "ordinary") rows;
   mode = mode_of rows;
 }
@@ -91,12 +93,3 @@ abbrev pub is_usage : List Text → Bool
 is_usage words =
     not (is_empty (fault_of command words))
     || (asks_both (matches_of command words) || not (are_plain (matches_of command words)))
-
--- ---- ranges
--- the number lies between these two
-abbrev pub IsBetween : ℕ → ℕ → ℕ → Type 0
-IsBetween low high n = (low ≤ n) × (n ≤ high)
-
--- each number of the options lies in its range
-abbrev pub AreInRange : Options → Type 0
-AreInRange o = IsBetween 1 8 o.workers × IsBetween 1 1000000 o.turns × IsBetween 1 4294967296 o.judge_steps

@@ -5,15 +5,20 @@ ghost use Rattle.clap.specs.Walk.{rule_of, rows_of};
 ghost use Rattle.clap.specs.Simple.{app_of, matches_of};
 ghost use Rattle.clap.specs.Faults.{fault_of};
 ghost use Rattle.clap.specs.Matches.{found_of};
-ghost use Rattle.command_line.specs.Command.{command, number_rule, flag_rule, is_usage, options_of, AreInRange};
+ghost use Rattle.command_line.specs.Command.{command, number_rule, flag_rule, is_usage, options_of};
 ghost use Rattle.command_line.specs.Command.{asks_both, options_in, mode_of, is_set, number_of};
 ghost use Rattle.command_line.specs.Command.{are_plain, is_plain, is_plain_at};
 ghost use Rattle.command_line.specs.Matches.{has_number, AreRead};
+ghost use Rattle.options.specs.Asked.{AreInRange};
 
-use crate::options::{Mode, Options};
 use clap::builder::ValueParser;
 use clap::error::ErrorKind;
 use clap::{Arg, ArgAction, ArgMatches, Command};
+use options::limits::{
+    DEFAULT_JUDGE_STEPS, DEFAULT_TURNS, DEFAULT_WORKERS, LAST_MADE, MAX_JUDGE_STEPS, MAX_TURNS,
+    MAX_WORKERS,
+};
+use options::{Mode, Options};
 use std::alloc::{AllocError, Global};
 
 /// Why words give no options.
@@ -49,12 +54,12 @@ fn command<'a>(alloc: Global) -> Result<Command<'a>, AllocError>
 {
     Command::new(alloc, "beagle")
         .no_binary_name(true)
-        .arg(number(alloc, "workers", 1, 8))?
-        .arg(number(alloc, "turns", 1, 1_000_000))?
-        .arg(number(alloc, "judge-steps", 1, 4_294_967_296))?
+        .arg(number(alloc, "workers", 1, MAX_WORKERS))?
+        .arg(number(alloc, "turns", 1, MAX_TURNS))?
+        .arg(number(alloc, "judge-steps", 1, MAX_JUDGE_STEPS))?
         .arg(flag(alloc, "ordinary"))?
         .arg(flag(alloc, "check"))?
-        .arg(number(alloc, "make", 0, 4_294_967_295))
+        .arg(number(alloc, "make", 0, LAST_MADE))
 }
 
 // The number of an option, where it is there.
@@ -78,7 +83,7 @@ fn asks_both(matches: &ArgMatches) -> bool
     requires { AreRead (rows_of (found_of matches.now)) }
     ensures { result ≡ asks_both (rows_of (found_of matches.now)) }
 {
-    is_set(matches, "check") && number_of(matches, "make", 0, 4_294_967_295).is_some()
+    is_set(matches, "check") && number_of(matches, "make", 0, LAST_MADE).is_some()
 }
 
 // What the run does.
@@ -89,7 +94,7 @@ fn mode_of(matches: &ArgMatches) -> Mode
     if is_set(matches, "check") {
         return Mode::Check;
     }
-    match number_of(matches, "make", 0, 4_294_967_295) {
+    match number_of(matches, "make", 0, LAST_MADE) {
         Some(number) => Mode::Make(number as u32),
         None => Mode::Prove,
     }
@@ -102,9 +107,13 @@ fn options_in(matches: &ArgMatches) -> Options
     ensures ranges { AreInRange result }
 {
     Options {
-        workers: number_of(matches, "workers", 1, 8).unwrap_or(2) as u32,
-        turns: number_of(matches, "turns", 1, 1_000_000).unwrap_or(5000) as u32,
-        judge_steps: number_of(matches, "judge-steps", 1, 4_294_967_296).unwrap_or(200_000),
+        workers: number_of(matches, "workers", 1, MAX_WORKERS).unwrap_or(u64::from(
+            DEFAULT_WORKERS,
+        )) as u32,
+        turns: number_of(matches, "turns", 1, MAX_TURNS).unwrap_or(u64::from(DEFAULT_TURNS)) as u32,
+        judge_steps: number_of(matches, "judge-steps", 1, MAX_JUDGE_STEPS).unwrap_or(
+            DEFAULT_JUDGE_STEPS,
+        ),
         ordinary: is_set(matches, "ordinary"),
         mode: mode_of(matches),
     }
@@ -160,7 +169,7 @@ fn matches_of<'a>(alloc: Global, words: &'a [String]) -> Result<ArgMatches<'a>, 
 
 /// The options that the words of a command line give, the program's name left out.
 ///
-/// Each number is that of its option, or else its default: 2 workers, 5,000 turns, 200,000 steps of a judge.
+/// Each number is that of its option, or else its default.
 /// `Usage` comes exactly where the words are refused by the command of six arguments, a wish for help among them, or
 /// `--check` stands beside `--make`, or a number has a plus sign or a needless zero in front; `Memory` only where
 /// memory ran out.

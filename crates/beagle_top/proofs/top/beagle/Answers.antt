@@ -1,8 +1,8 @@
 use Rattle.std.proofs.Common.{◌≡◌, ◌∙◌, ap, false, refl, subst, sym}
 use Rattle.std.proofs.lemmas.Option.{IfSome_then}
-use Rattle.command_line.specs.declared.options.Mode.{Mode}
-use Rattle.command_line.specs.declared.options.Mode.TheVariants.{Prove}
-use Rattle.command_line.specs.declared.options.Options.{Options}
+use Rattle.options.specs.declared.asked.Mode.{Mode}
+use Rattle.options.specs.declared.asked.Mode.TheVariants.{Prove}
+use Rattle.options.specs.declared.asked.Options.{Options}
 use Rattle.beagle_top.specs.Answer.{IsDecidable, is_make}
 use Rattle.beagle_top.proofs.Ending.{decided_due}
 use Rattle.beagle_top.proofs.Printed.{due_checks, zero_is_loud}

@@ -1,6 +1,6 @@
 use Rattle.std.proofs.Common.{◌≡◌, ℕ, List, rules, inr, refl, subst}
 use Rattle.std.proofs.lemmas.Option.{IfSome_then}
-use Rattle.command_line.specs.declared.options.Mode.TheVariants.{Check}
+use Rattle.options.specs.declared.asked.Mode.TheVariants.{Check}
 use Rattle.beagle_top.specs.Answer.{Ends}
 use Rattle.beagle_top.specs.Texts.{not_built}
 use Rattle.beagle_top.proofs.Ending.{checks_so}

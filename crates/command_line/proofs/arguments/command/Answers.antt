@@ -1,6 +1,7 @@
 use Rattle.std.proofs.Common.{◌≡◌, ◌∙◌, [], true, ap, ap₂, codes}
 use Rattle.std.proofs.lemmas.Result.{IfOk-weaker}
 use Rattle.clap.specs.Simple.{App, app_of, app_of_fields, new_shape, with_rule}
+use Rattle.options.specs.declared.limits.TheConstants.{MAX_JUDGE_STEPS, MAX_TURNS, MAX_WORKERS}
 use Rattle.command_line.specs.Command.{number_rule, flag_rule}
 use Rattle.command_line.proofs.arguments.command.Goals as goal
 
@@ -8,13 +9,13 @@ abbrev start : App
 start = record { top = record (new_shape (codes "beagle")) { no_binary_name = true }; subs = [] }
 
 abbrev one : App
-one = with_rule start (number_rule (codes "workers") 1 8)
+one = with_rule start (number_rule (codes "workers") 1 MAX_WORKERS)
 
 abbrev two : App
-two = with_rule one (number_rule (codes "turns") 1 1000000)
+two = with_rule one (number_rule (codes "turns") 1 MAX_TURNS)
 
 abbrev three : App
-three = with_rule two (number_rule (codes "judge-steps") 1 4294967296)
+three = with_rule two (number_rule (codes "judge-steps") 1 MAX_JUDGE_STEPS)
 
 abbrev four : App
 four = with_rule three (flag_rule (codes "ordinary"))

@@ -1,4 +1,4 @@
-use Rattle.std.proofs.Common.{◌≡◌, ◌∙◌, Option, Some, None, option_map, true, rules, refl, subst}
+use Rattle.std.proofs.Common.{◌≡◌, ◌∙◌, Option, Some, None, true, rules, refl, subst}
 use Rattle.std.specs.Option.{option_map_or}
 use Rattle.clap.specs.Matches.{found_of, first_value}
 use Rattle.clap.specs.Walk.{Text}
