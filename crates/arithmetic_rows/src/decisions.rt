@@ -220,7 +220,7 @@ pub fn put_judged(alloc: Global, arguments: &str, answer: &mut Vec<u8>) -> Resul
         number: query_number,
         pool: made,
     };
-    let verdict = judge.judge(alloc, &query, limit)?;
+    let verdict = judge.judge(&query, limit)?;
     push(answer, verdict_word(&verdict))?;
     put_asked(alloc, &judge, 0, answer)?;
     put_asked(alloc, &judge, 1, answer)?;

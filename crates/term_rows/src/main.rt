@@ -1,0 +1,24 @@
+//! Rows of terms: sorts, orders, substitutions, unifiers and abstractions. Each states its answer, which was worked out by hand.
+#![tactic(auto)]
+
+mod abstractions;
+mod answers;
+mod copies;
+mod large;
+mod orders;
+mod rows;
+mod substitutions;
+mod unifiers;
+mod views;
+
+use rows::Rows;
+use std::io::{self, Write};
+
+fn main(rt: HostRuntime) -> io::Result<()> {
+    let alloc = rt.alloc();
+    let text = io::read_to_string(alloc, rt.stdin())?;
+    match row_lines::report(alloc, &Rows, text.as_str()) {
+        Ok(told) => rt.stdout().write_all(told.as_slice()),
+        Err(_) => Err(io::ErrorKind::InvalidData.into()),
+    }
+}
