@@ -156,10 +156,11 @@ fn name_is_same(alloc: Global, symbol: &Symbol, copy: &Symbol) -> Result<bool, A
     Ok(name == copy.name && name.same(&copy.name))
 }
 
-// whether a further copy of the arguments' sorts is that of the copied symbol
+// whether the copied symbol, and a further copy of the arguments' sorts, have the sorts of the symbol
 fn args_are_same(alloc: Global, symbol: &Symbol, copy: &Symbol) -> Result<bool, AllocError> {
     let args = symbol.args.copy(alloc)?;
-    Ok(args.as_slice() == copy.args.as_slice())
+    let sorts = symbol.args.as_slice();
+    Ok(args.as_slice() == sorts && copy.args.as_slice() == sorts && copy.result == symbol.result)
 }
 
 /// The name of the copy of a symbol.
